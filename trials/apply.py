@@ -217,7 +217,7 @@ def books_anew(db, behind, lines, copies):
         are_same("books as of act %d" % known, copy, then)
         is_told("a copy brought up", copied(copy, path_of("up")), text, tally(count - known, known, 0))
         are_same("a copy brought up", db, path_of("up"))
-        is_told("the lines behind it", copied(copy, path_of("up")), b"".join(lines[known:]), tally(count - known, 0, 0))
+        is_told("the lines behind it", copied(copy, path_of("up")), b"".join(lines[known:]), tally(count - known, 0, 0 if known < count else count))
         are_same("the lines behind it", db, path_of("up"))
     print("  books anew, as of an act, and copies brought up: every row the same", flush=True)
 

@@ -15,7 +15,7 @@ use Rattle.machine.specs.Tables.{repeat_row}
 use Rattle.histories.specs.Text.{history_line}
 use Rattle.histories.specs.Lines.{IsDayAfter, row_line}
 use Rattle.histories.specs.Newer.{act_line, newer_text}
-use Rattle.histories.proofs.Acts.{row_of}
+use Rattle.histories.specs.Books.{row_of}
 use Rattle.histories.proofs.Printed.{line_is}
 use Rattle.histories.proofs.Walking.{Walks, IsOfActs, SoFar, all_so_far, front_all, at_next, next, later_parts, next_history, whole}
 use Rattle.act_lines.specs.Reading.{IsPart, IsLine}

@@ -17,7 +17,7 @@ use Rattle.machine.specs.Tables.{repeat_row}
 use Rattle.histories.specs.Text.{history_line, history_text}
 use Rattle.histories.specs.Lines.{IsDayAfter, row_line}
 use Rattle.histories.specs.Newer.{act_line}
-use Rattle.histories.proofs.Acts.{row_of}
+use Rattle.histories.specs.Books.{row_of}
 use Rattle.histories.proofs.Printed.{line_is}
 use Rattle.histories.proofs.Walking.{Walks, IsOfActs, SoFar, all_so_far, whole, front_all, at_next, next, later_parts, next_history}
 use Rattle.acts_files.specs.Walked.{IsSameFile, PassesLine, StopsBefore, IsUnlike, HasPassed}

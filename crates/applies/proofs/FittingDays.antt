@@ -1,60 +1,54 @@
 -- The day that is found fits the first line of a text: the acts from that line on have the lines that they have in the text.
-use Rattle.std.proofs.Common.{◌≡◌, ◌≢◌, ℕ, ◌<◌, ◌^◌, true, List, [], ◌∷◌, ◌++◌, Option, Some, None, option_map, refl, sym, ap, subst, ◌∙◌, arith, IsTrue}
-use Rattle.std.specs.Prelude.{ℤ, pos, negsuc, ◌+ℤ◌, if◌then◌else◌, decimal, int_le, int_lt}
+use Rattle.std.proofs.Common.{◌≡◌, ◌≢◌, ℕ, ◌<◌, ◌^◌, true, List, [], ◌∷◌, ◌++◌, Option, Some, None, refl, sym, ap, subst, ◌∙◌, arith, IsTrue}
+use Rattle.std.specs.Prelude.{ℤ, pos, negsuc, ◌-ℤ◌, if◌then◌else◌, decimal, int_le, int_lt}
 use Rattle.std.proofs.lemmas.Int.{ints}
 use Rattle.std.proofs.lemmas.Option.{same_Some, none-some}
 use Rattle.values.specs.declared.lot.LotId.{LotId}
 use Rattle.label.specs.Days.{is_day, is_business_day, day_text}
 use Rattle.label.proofs.DayTexts.{parsed_day-day_text}
 use Rattle.commands.specs.Spelling.{key_text, spelling}
-use Rattle.commands.specs.declared.rows.CardRow.{CardRow}
 use Rattle.commands.specs.declared.command.Command.{Command}
 use Rattle.commands.specs.declared.command.Command.TheVariants.{OpenDay}
 use Rattle.commands.proofs.Joining.{and_both, and_true}
+use Rattle.spellings.specs.Starting.{told_by, day_before}
+use Rattle.spellings.specs.declared.start.Start.{Start}
+use Rattle.spellings.specs.declared.start.Start.TheVariants.{Received, Opened}
 use Rattle.machine.specs.Acts.{Act, next_number}
 use Rattle.machine.specs.Once.{IsHistory}
 use Rattle.machine.specs.Standing.{today, day_after_command}
-use Rattle.machine.specs.Tables.{tables_of, card_row}
 use Rattle.histories.specs.Text.{tabbed, history_line}
 use Rattle.histories.specs.Newer.{act_line}
-use Rattle.histories.specs.Start.{first_dated, receipt}
-use Rattle.histories.specs.declared.dated.Dated.{Dated}
-use Rattle.histories.specs.declared.dated.Dated.TheVariants.{Receipt, Opening}
-use Rattle.replays.specs.Starting.{told_by, told_first, start_of, first_day}
-use Rattle.replays.specs.declared.start.Start.{Start}
-use Rattle.replays.specs.declared.start.Start.TheVariants.{Received, Opened}
+use Rattle.histories.specs.Start.{told_first, start_of, first_day, IsStart}
+use Rattle.histories.proofs.Begun.{start_kept}
 use Rattle.replays.proofs.FirstDay.{untold_day, first_day_told}
-use Rattle.replays.proofs.EarlierDays.{earlier_alike, opened_later, began_on_business}
-use Rattle.replays.proofs.Steps.{older as older_history}
+use Rattle.replays.proofs.EarlierDays.{earlier_alike, opened_later, began_on_business, before_opened}
+use Rattle.histories.proofs.Acts.{earlier}
 use Rattle.applies.specs.Fields.{behind_tab}
-use Rattle.applies.specs.Begun.{BegunOn, FitsLine, day_in, line_day, earlier_day, day_known}
+use Rattle.applies.specs.Begun.{BegunOn, FitsLine, day_in, line_day, earlier_day}
 use Rattle.applies.proofs.LineFields.{line_parts, cut_first, number_lacks, day_lacks}
 use Rattle.applies.proofs.Fronts.{small}
-use Rattle.applies.proofs.BegunDays.{both_told, none_told, receipt_told, opening_told}
 
 -- ---- where no day is opened before anything is received, the acts began on one day alone
 
-abbrev OpensNoneFirst : List Act → Type 0
+abbrev pub OpensNoneFirst : List Act → Type 0
 OpensNoneFirst acts = (day : ℤ) → start_of acts ≢ Some (Opened day)
 
 one_day : (first begun : ℤ) (acts : List Act) → IsHistory first acts → BegunOn first acts begun → OpensNoneFirst acts → begun ≡ first
 one_day first begun acts h b none =
     same_Some begun first (sym (first_day_told begun acts b.history none) ∙ ap (λ t. first_day t (start_of acts)) b.tables ∙ first_day_told first acts h none)
 
-none_opened : (acts : List Act) → start_of acts ≡ None → OpensNoneFirst acts
+pub none_opened : (acts : List Act) → start_of acts ≡ None → OpensNoneFirst acts
 none_opened acts is day opened = none-some _ (sym is ∙ opened)
 
-received_first : (acts : List Act) (l : LotId) (n : ℕ) → start_of acts ≡ Some (Received l n) → OpensNoneFirst acts
+pub received_first : (acts : List Act) (l : LotId) (n : ℕ) → start_of acts ≡ Some (Received l n) → OpensNoneFirst acts
 received_first acts l n is day opened = let no : Received l n ≡ Opened day = same_Some _ _ (sym is ∙ opened) in cc
 
-fits_alone : (first : ℤ) (acts : List Act) (line : List ℕ) (day : ℤ) → IsHistory first acts → OpensNoneFirst acts → day ≡ first → FitsLine first acts line day
-fits_alone first acts line day h none is begun newer later act older b history parts own = ap (λ d. today d (act ∷ older)) (is ∙ sym (one_day first begun acts h b none))
+pub fits_told : (first : ℤ) (acts : List Act) (line : List ℕ) (day : ℤ) → IsHistory first acts → OpensNoneFirst acts → IsStart first acts day → FitsLine first acts line day
+fits_told first acts line day h none told begun newer later act older b history parts own =
+    let is : day ≡ first = same_Some day first (sym told ∙ first_day_told first acts h none) in
+    ap (λ d. today d (act ∷ older)) (is ∙ sym (one_day first begun acts h b none))
 
 -- ---- where one is, the business day from that act on is the same from whatever day
-
-start_kept : (newer older : List Act) (s : Start) → start_of older ≡ Some s → start_of (newer ++ older) ≡ Some s
-start_kept [] older s e = e
-start_kept (act ∷ newer) older s e = ap (λ o. told_first o (told_by (next_number (newer ++ older)) act.command)) (start_kept newer older s e)
 
 opened_day : (a b d : ℤ) (acts : List Act) → start_of acts ≡ Some (Opened d) → today a acts ≡ today b acts
 opened_day a b d [] e = absurd (none-some _ e)
@@ -95,39 +89,21 @@ told_first_day begun last line act older h none low own =
     ∙ told_in (next_number older) begun (key_text act.key) (spelling act.command) (small begun act older h) (business_is_day begun business) in
     ap (λ o. earlier_day o last) told ∙ ap (λ b. if b then begun else last) (and_true (is_business_day begun) (int_le begun last) business low)
 
-fits_opened : (first : ℤ) (acts : List Act) (last : ℤ) (line : List ℕ) (day : ℤ) → Some (Opening last) ≡ first_dated acts → day ≡ earlier_day (line_day line) last → FitsLine first acts line day
-fits_opened first acts last line day found is begun newer later act older b history parts own =
-    let it = opening_told (start_of acts) last (sym (both_told acts) ∙ sym found) in
-    by_start it.0 it.1 it.2 (start_of (act ∷ older)) refl
+pub fits_opened : (first : ℤ) (acts : List Act) (d : ℤ) (line : List ℕ) (day : ℤ) → start_of acts ≡ Some (Opened d) → day ≡ earlier_day (line_day line) (day_before d) → FitsLine first acts line day
+fits_opened first acts d line day told is begun newer later act older b history parts own = by_start (start_of (act ∷ older)) refl
   where
-    by_start : (d : ℤ) → start_of acts ≡ Some (Opened d) → last ≡ d +ℤ negsuc 0 → (s : Option Start) → start_of (act ∷ older) ≡ s → today day (act ∷ older) ≡ today begun (act ∷ older)
-    by_start d told before None none =
+    by_start : (s : Option Start) → start_of (act ∷ older) ≡ s → today day (act ∷ older) ≡ today begun (act ∷ older)
+    by_start None none =
         let opened = opened_later begun d acts b.history told in
         let later_day = opened.later in
-        let low : int_le begun last ≡ true = grind (arith, ints) in
-        let here : IsHistory begun (act ∷ older) = older_history begun later (act ∷ older) (subst (IsHistory begun) parts history) in
-        ap (λ x. today x (act ∷ older)) (is ∙ told_first_day begun last line act older here none low own)
-    by_start d told before (Some s) some =
+        let low : int_le begun (d -ℤ pos 1) ≡ true = grind (arith, ints) in
+        let before : int_le begun (day_before d) ≡ true = subst (λ x. int_le begun x ≡ true) (sym (before_opened begun d acts b.history told)) low in
+        let here : IsHistory begun (act ∷ older) = earlier begun later (act ∷ older) (subst (IsHistory begun) parts history) in
+        ap (λ x. today x (act ∷ older)) (is ∙ told_first_day begun (day_before d) line act older here none before own)
+    by_start (Some s) some =
         let all : start_of (newer ++ acts) ≡ Some (Opened d) = start_kept newer acts (Opened d) told in
         let same : start_of (act ∷ older) ≡ Some (Opened d) = some ∙ sym (start_kept later (act ∷ older) s some) ∙ ap start_of (sym parts) ∙ all in
         opened_day day begun d (act ∷ older) same
-
--- ---- by what was found
-
-pub received_fits : (first : ℤ) (acts : List Act) (lot : LotId) (n : ℕ) (row : CardRow) (line : List ℕ) (day : ℤ) → IsHistory first acts → Some (Receipt lot n) ≡ first_dated acts → card_row first acts lot n ≡ Some row → day ≡ row.day → FitsLine first acts line day
-unfolding tables_of
-received_fits first acts lot n row line day h found card is =
-    let told : start_of acts ≡ Some (Received lot n) = receipt_told (start_of acts) lot n (sym (both_told acts) ∙ sym found) in
-    let none = received_first acts lot n told in
-    let first_is : first_day (tables_of first acts) (start_of acts) ≡ Some day = ap (first_day (tables_of first acts)) told ∙ ap (option_map (λ (c : CardRow). c.day)) card ∙ ap Some (sym is) in
-    fits_alone first acts line day h none (same_Some day first (sym first_is ∙ first_day_told first acts h none))
-
-pub known_fits : (first : ℤ) (acts : List Act) (found : Option Dated) (now day : ℤ) (line : List ℕ) → IsHistory first acts → found ≡ first_dated acts → receipt found ≡ None → now ≡ today first acts → day ≡ day_known found now (line_day line) → FitsLine first acts line day
-known_fits first acts None now day line h is none at known =
-    let untold = none_told (start_of acts) (sym (both_told acts) ∙ sym is) in
-    fits_alone first acts line day h (none_opened acts untold) (known ∙ at ∙ untold_day first acts untold)
-known_fits first acts (Some (Opening last)) now day line h is none at known = fits_opened first acts last line day is known
-known_fits first acts (Some (Receipt lot number)) now day line h is none at known = absurd (none-some _ (sym none))
 
 -- ---- acts that go on with these are a history from each day on which these began
 

@@ -26,7 +26,8 @@ use Rattle.act_lines.specs.Walked.{IsRead}
 use Rattle.act_lines.specs.declared.known.Place.{Place}
 use Rattle.act_lines.specs.declared.known.Place.TheVariants.{Before, Within, Behind}
 use Rattle.replays.specs.Replaying.{cause}
-use Rattle.replays.proofs.Steps.{accepted_there, older as older_history}
+use Rattle.histories.proofs.Acts.{earlier}
+use Rattle.replays.proofs.Steps.{accepted_there}
 use Rattle.applies.specs.Begun.{BegunOn, FitsLine}
 use Rattle.applies.specs.Fields.{untabbed, key_and_spelling}
 use Rattle.applies.specs.Going.{GoneOn, MayCome, Misfits, IsOfNoLine, IsDone, GoesOn, OfText}
@@ -100,7 +101,7 @@ module _ (first day : ℤ) (acts newer : List Act) (history : IsHistory first (n
   front = shown_behind acts newer gone.later gone.known gone.older gone.parts gone.next
 
   shown_history : IsHistory first shown
-  shown_history = older_history first front.0 shown (subst (IsHistory first) front.1 history)
+  shown_history = earlier first front.0 shown (subst (IsHistory first) front.1 history)
 
   pub text_is : text ≡ forward day gone.older lines ++ gone.rest
   text_is = gone.is ∙ ap (λ t. t ++ gone.rest) (forward_is day (newer ++ gone.known) gone.older)
@@ -118,7 +119,7 @@ module _ (first day : ℤ) (acts newer : List Act) (history : IsHistory first (n
       turn : ((mine ++ its.known ≡ []) × (base ≡ gone.older)) ⊎ ((base ≡ reached) × (its.older ≡ gone.older))
 
     done_history : IsHistory first reached
-    done_history = let f = shown_behind acts mine its.later its.known its.older its.parts its.next in older_history first f.0 reached (subst (IsHistory first) f.1 mine_history)
+    done_history = let f = shown_behind acts mine its.later its.known its.older its.parts its.next in earlier first f.0 reached (subst (IsHistory first) f.1 mine_history)
 
     met : (tail : List ℕ) → text ≡ newer_text day (mine ++ its.known) its.older ++ tail → Met tail
     met tail e =
@@ -283,7 +284,7 @@ module _ (first day : ℤ) (acts newer : List Act) (history : IsHistory first (n
         -- the line bears no number of another act
         no_other : (line : List ℕ) → line ≡ act_line day act m.base → (n : ℕ) (behind : List Act) (a : Act) (o : List Act) → acts ≡ behind ++ a ∷ o → n ≡ next_number o → IsNumbered n line → line ≢ act_line day a o → ⊥
         no_other line own n behind a o there number bears other =
-            let known_history : IsHistory first (a ∷ o) = older_history first behind (a ∷ o) (subst (IsHistory first) there (older_history first newer acts history)) in
+            let known_history : IsHistory first (a ∷ o) = earlier first behind (a ∷ o) (subst (IsHistory first) there (earlier first newer acts history)) in
             let low : n < 2 ^ 64 = subst (λ k. k < 2 ^ 64) (sym number) (small first a o known_history) in
             let numbers : n ≡ next_number m.base =
             borne_number n (next_number m.base) (today day (act ∷ m.base)) (key_text act.key) (spelling act.command) low low_number (subst (IsNumbered n) own bears) in
@@ -393,7 +394,7 @@ module _ (first begun : ℤ) (acts newer : List Act) (history : IsHistory begun 
           let f = shown_behind acts newer gone.later gone.known gone.older gone.parts gone.next in
           let there : newer ++ acts ≡ (f.0 ++ onto xs []) ++ x ∷ gone.older =
           f.1 ∙ ap (λ l. f.0 ++ l) (sym (onto_twice (newer ++ gone.known) [] gone.older) ∙ ap (λ l. onto l gone.older) is ∙ onto_front xs (x ∷ gone.older)) ∙ sym (append_assoc f.0 (onto xs []) (x ∷ gone.older)) in
-          let here = older_history begun (f.0 ++ onto xs []) (x ∷ gone.older) (subst (IsHistory begun) there history) in
+          let here = earlier begun (f.0 ++ onto xs []) (x ∷ gone.older) (subst (IsHistory begun) there history) in
           let own = act_is_line begun begun x gone.older here in
           let all : text ≡ act_line begun x gone.older ++ (forward begun (x ∷ gone.older) xs ++ gone.rest) =
           gone.is ∙ ap (λ t. t ++ gone.rest) (forward_is begun (newer ++ gone.known) gone.older ∙ ap (forward begun gone.older) is) ∙ append_assoc (act_line begun x gone.older) (forward begun (x ∷ gone.older) xs) gone.rest in

@@ -6,8 +6,6 @@ use Rattle.machine.specs.Once.{IsHistory}
 use Rattle.machine.specs.Standing.{today}
 use Rattle.machine.specs.Tables.{tables_of}
 use Rattle.histories.specs.Newer.{act_line}
-use Rattle.histories.specs.declared.dated.Dated.{Dated}
-use Rattle.histories.specs.declared.dated.Dated.TheVariants.{Receipt, Opening}
 use Rattle.applies.specs.Fields.{cut_at_tab, behind_tab}
 
 -- Begun on this day the acts are a history too, and have the same tables. Where they open a day before any receives, that is so
@@ -28,12 +26,6 @@ line_day line = day_in (behind_tab (cut_at_tab line))
 abbrev pub earlier_day : Option ℤ → (last : ℤ) → ℤ
 earlier_day None last = last
 earlier_day (Some day) last = if is_business_day day && int_le day last then day else last
-
--- the day where the first act that tells of a day receives nothing
-abbrev pub day_known : Option Dated → (now : ℤ) → Option ℤ → ℤ
-day_known (Some (Opening last)) now told = earlier_day told last
-day_known (Some (Receipt lot number)) now told = now
-day_known None now told = now
 
 -- A text of a history that goes on with the acts may begin with this line: it is the line of an act there, whatever the day on
 -- which the history began. Then the act has the same business day where it began on this one.

@@ -163,8 +163,6 @@ pub(crate) fn apply_lines<S: Alter, R: BufRead + Drop>(
         → IsStart R.remaining left lines → lines.day ≡ begun → OfText left (λ text. Leaves first begun acts text trees)) }
 {
     let mut lines = lines;
-    match pass_known(books, &mut lines) {
-        Ok(()) => go_on(alloc, books, lines),
-        Err(fault) => Err(fault),
-    }
+    pass_known(books, &mut lines)?;
+    go_on(alloc, books, lines)
 }

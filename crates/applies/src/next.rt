@@ -173,10 +173,8 @@ pub(crate) fn do_line<S: Alter>(
     ensures survives { Survives (state S.Store books.old.conn) (state S.Store books.new.conn) (λ trees. (first begun : ℤ) (acts : List Act) → IsHistory first acts → HoldsBooks S.Store first acts books.old
         → IsAt begun acts at.old → LeavesLine first begun acts line.now trees) }
 {
-    match read_next(alloc, at, line) {
-        Ok(next) => do_next(books, at, &next),
-        Err(fault) => Err(fault),
-    }
+    let next = read_next(alloc, at, line)?;
+    do_next(books, at, &next)
 }
 
 /// Does the act that comes next. After a fault the books are as they were.

@@ -38,23 +38,19 @@ fn apply_read<S: Alter, R: BufRead + Drop>(
     ensures survives { Survives (state S.Store books.old.conn) (state S.Store books.new.conn) (λ trees. (left : Option (List ℕ)) (first : ℤ) (acts : List Act) → IsHistory first acts → HoldsBooks S.Store first acts books.old
         → Consumes left (R.remaining reader) line.items → IsRead place line.items left (R.remaining reader) → OfText left (λ text. LeavesOneOf first acts text trees)) }
 {
-    match find_begun(alloc, books, line.as_slice()) {
-        Ok(day) => {
-            let lines = KnownLines {
-                alloc,
-                reader,
-                line,
-                done: 0,
-                day,
-                known: 0,
-                last: 0,
-                place,
-                fault: LineFault::Input,
-            };
-            apply_lines(alloc, books, lines)
-        }
-        Err(fault) => Err(fault),
-    }
+    let day = find_begun(alloc, books, line.as_slice())?;
+    let lines = KnownLines {
+        alloc,
+        reader,
+        line,
+        done: 0,
+        day,
+        known: 0,
+        last: 0,
+        place,
+        fault: LineFault::Input,
+    };
+    apply_lines(alloc, books, lines)
 }
 
 /// Does the acts of a history's text that the books lack, a transaction each, each as its line comes. A line whose act the
@@ -78,8 +74,6 @@ pub fn apply_text<S: Alter, R: BufRead + Drop>(
 {
     let mut reader = reader;
     let mut line = Vec::new(alloc);
-    match first_line(&mut reader, &mut line) {
-        Ok(place) => apply_read(alloc, books, reader, line, place),
-        Err(fault) => Err(fault),
-    }
+    let place = first_line(&mut reader, &mut line)?;
+    apply_read(alloc, books, reader, line, place)
 }

@@ -98,10 +98,8 @@ pub fn apply<S: Alter, R: Read + Drop, W: Write>(
         → LeavesOnly first acts (state S.Store books.old.conn)
         → IsTextApplied S.Store first acts (R.remaining file) result books.new (W.contents out.old) (W.contents out.new) }
 {
-    match take_in(alloc, books, file) {
-        Ok(applied) => print_applied(applied, out),
-        Err(fault) => Err(fault),
-    }
+    let applied = take_in(alloc, books, file)?;
+    print_applied(applied, out)
 }
 
 /// Prints how many acts were done, known, and beyond the last line.

@@ -12,9 +12,9 @@ use Rattle.history_tables.specs.Cards.{cards}
 use Rattle.whole_tables.specs.Whole.{AreAll}
 use Rattle.same_rows.specs.declared.key.RowKey.{RowKey}
 use Rattle.same_rows.specs.declared.key.RowKey.TheVariants.{Meta, Card}
-use Rattle.replays.specs.Starting.{first_day}
-use Rattle.replays.specs.declared.start.Start.{Start}
-use Rattle.replays.specs.declared.start.Start.TheVariants.{Received}
+use Rattle.spellings.specs.declared.start.Start.{Start}
+use Rattle.spellings.specs.declared.start.Start.TheVariants.{Received}
+use Rattle.histories.specs.Start.{first_day}
 use Rattle.audits.specs.Beginning.{IsUntold, day_or_missing, IsBegun}
 
 none_mapped : {X Y : Type 0} (f : X → Y) (x : Option X) → option_map f x ≡ None → x ≡ None

@@ -21,11 +21,12 @@ use Rattle.same_rows.specs.declared.key.RowKey.{RowKey}
 use Rattle.same_rows.specs.declared.key.TableName.{TableName}
 use Rattle.same_rows.specs.Differing.{RowDiffers, rule_called}
 use Rattle.same_rows.specs.Same.{FindAlike}
+use Rattle.spellings.specs.declared.start.Start.{Start}
+use Rattle.spellings.specs.declared.start.Start.TheVariants.{Received, Opened}
+use Rattle.histories.specs.Start.{start_of, first_day}
 use Rattle.replays.specs.Replaying.{Spell, BreakUnspelled, BreakRefused}
 use Rattle.replays.specs.Spelled.{AreNewestFirst, AreRepeats, IsUnnumbered}
-use Rattle.replays.specs.Starting.{start_of, first_day, Tell, TellFirst}
-use Rattle.replays.specs.declared.start.Start.{Start}
-use Rattle.replays.specs.declared.start.Start.TheVariants.{Received, Opened}
+use Rattle.replays.specs.Starting.{Tell, TellFirst}
 use Rattle.replays.proofs.RowSteps.{none_unspelled, none_refused}
 use Rattle.replays.proofs.Spelled.{one_order, spelled, no_other, none_spelled}
 use Rattle.replays.proofs.FirstDay.{first_day_told}

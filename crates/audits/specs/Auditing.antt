@@ -18,10 +18,11 @@ use Rattle.slices.specs.Books.{AreRowsOf, IsBooksOf}
 use Rattle.store.specs.Opening.{AreRowsAt}
 use Rattle.same_rows.specs.declared.key.RowKey.{RowKey}
 use Rattle.same_rows.specs.Differing.{RowDiffers, rule_called}
+use Rattle.spellings.specs.declared.start.Start.{Start}
+use Rattle.histories.specs.Start.{first_day, start_of}
 use Rattle.replays.specs.Replaying.{Spell, BreakUnspelled, BreakRefused}
 use Rattle.replays.specs.Spelled.{AreRepeats, IsUnnumbered}
-use Rattle.replays.specs.Starting.{first_day, start_of, TellFirst}
-use Rattle.replays.specs.declared.start.Start.{Start}
+use Rattle.replays.specs.Starting.{TellFirst}
 use Rattle.replays.specs.declared.fault.NotReplayed.{NotReplayed}
 use Rattle.replays.specs.declared.fault.NotReplayed.TheVariants as fault
 use Rattle.store.specs.declared.fault.Fault.{Fault}

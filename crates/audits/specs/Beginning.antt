@@ -5,9 +5,9 @@ use Rattle.table_words.specs.Typed.{Tables, tables_in, Keeps}
 use Rattle.same_rows.specs.declared.key.RowKey.{RowKey}
 use Rattle.same_rows.specs.declared.key.RowKey.TheVariants.{Meta, Card}
 use Rattle.same_rows.specs.Differing.{rule_called}
-use Rattle.replays.specs.Starting.{first_day}
-use Rattle.replays.specs.declared.start.Start.{Start}
-use Rattle.replays.specs.declared.start.Start.TheVariants.{Received, Opened}
+use Rattle.spellings.specs.declared.start.Start.{Start}
+use Rattle.spellings.specs.declared.start.Start.TheVariants.{Received, Opened}
+use Rattle.histories.specs.Start.{first_day}
 use Rattle.audits.specs.declared.first_day.Begun.{Begun}
 use Rattle.audits.specs.declared.first_day.Begun.TheVariants.{On, Missing, Untyped}
 

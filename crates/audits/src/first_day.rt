@@ -5,8 +5,7 @@ ghost use Rattle.sqlite.specs.Held.{state};
 ghost use Rattle.sqlite.specs.State.{HasCleanDisk, Survives};
 ghost use Rattle.table_words.specs.Steps.{IsReady};
 ghost use Rattle.table_words.specs.Typed.{same_card, card_key};
-ghost use Rattle.replays.specs.Starting.{day_before as day_before_lem};
-ghost use Rattle.replays.specs.declared.start.Start.TheVariants.{Received};
+ghost use Rattle.spellings.specs.declared.start.Start.TheVariants.{Received};
 ghost use Rattle.same_rows.specs.declared.key.RowKey.TheVariants as row;
 ghost use Rattle.store.specs.declared.fault.Fault.TheVariants.{Store as StoreFault};
 ghost use Rattle.audits.specs.Beginning.{day_or_missing, IsBegun};
@@ -14,9 +13,9 @@ ghost use Rattle.audits.specs.Beginning.{day_or_missing, IsBegun};
 use commands::{CardRow, MetaRow};
 use goods_tables::meta::Meta;
 use history_tables::cards::Cards;
-use label::{BusinessDay, Day};
-use replays::Start;
+use label::BusinessDay;
 use same_rows::{RowKey, TableName};
+use spellings::{Start, day_before};
 use sqlite::{Alter, Transaction};
 use std::alloc::Global;
 use store::Fault;
@@ -33,20 +32,6 @@ pub(crate) enum Begun {
     Missing(RowKey),
     /// A row of this table has a value that no row has.
     Untyped(TableName),
-}
-
-/// The day before; of the first business day that day itself.
-fn day_before(day: BusinessDay) -> BusinessDay
-    ensures { result ≡ day_before_lem day }
-{
-    let before = i64::from(day.day().number()) - 1;
-    match Day::new(before) {
-        Some(earlier) => match BusinessDay::new(earlier) {
-            Some(earlier) => earlier,
-            None => day,
-        },
-        None => day,
-    }
 }
 
 /// The day of the row of `meta`, of which there is one at most.

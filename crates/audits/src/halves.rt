@@ -66,10 +66,10 @@ fn compare_halves<T: Compared + Halved, S: Alter, M: Alter>(
     ensures same_reference_too { replayed.new.conn.ghost_name ≡ replayed.old.conn.ghost_name }
     ensures tells { Tells (SameTable T.table) (state S.Store books.old.conn.now) (state S.Store books.new.conn.now) (state M.Store replayed.old.conn.now) (state M.Store replayed.new.conn.now) result }
 {
-    match halves_alike::<T, S, M>(alloc, books, replayed, middle) {
-        Ok(true) => Ok(None),
-        Ok(false) => compare::<T, S, M>(alloc, books, replayed),
-        Err(unread) => Err(unread),
+    if halves_alike::<T, S, M>(alloc, books, replayed, middle)? {
+        Ok(None)
+    } else {
+        compare::<T, S, M>(alloc, books, replayed)
     }
 }
 

@@ -76,8 +76,6 @@ pub(crate) fn read_acts<S: Alter>(
     ensures unread { HasCleanDisk (state S.Store tx.new.conn.now) → IsReady (state S.Store tx.old.conn.now).now → IfErr result (IsUnread (state S.Store tx.old.conn.now).now.trees) }
     ensures survives { Survives (state S.Store tx.old.conn.now) (state S.Store tx.new.conn.now) (λ _. ⊥) }
 {
-    match middle_act(alloc, tx) {
-        Ok(middle) => act_rows_about(alloc, tx, &middle),
-        Err(unread) => Err(unread),
-    }
+    let middle = middle_act(alloc, tx)?;
+    act_rows_about(alloc, tx, &middle)
 }

@@ -47,12 +47,7 @@ pub(crate) fn act_rows<M: Honest + Drop, P: Progress>(
 {
     // The books may begin on it.
     let _business = day.day();
-    let mut books = match new_books(alloc, empty, day) {
-        Ok(books) => books,
-        Err(fault) => return Err(fault),
-    };
-    match replay_rows(alloc, &mut books, rows, progress) {
-        Ok(()) => Ok(books.close()),
-        Err(fault) => Err(fault),
-    }
+    let mut books = new_books(alloc, empty, day)?;
+    replay_rows(alloc, &mut books, rows, progress)?;
+    Ok(books.close())
 }

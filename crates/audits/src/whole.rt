@@ -61,7 +61,6 @@ fn hold_against<S: Alter, M: Honest + Drop>(
     ensures survives { Survives (state S.Store tx.old.conn.now) (state S.Store tx.new.conn.now) (λ _. ⊥) }
 {
     let mut replayed = replayed;
-    let _outside = replayed.is_autocommit();
     let mut other = replayed.transaction();
     // An act adds one row to most of the tables that grow.
     let middle = middle_of(acts as u64);
@@ -212,7 +211,6 @@ fn audit_open<S: Alter, M: Honest + Drop, P: Progress>(
     ensures fault { IfErr result (λ e. (e ≡ ForeignFault) ⊎ (e ≡ StoreFault)) }
     ensures survives { Survives (state S.Store conn.old) (state S.Store conn.new) (λ _. ⊥) }
 {
-    let _outside = conn.is_autocommit();
     let mut tx = conn.transaction();
     let finding = audit_raised(alloc, &mut tx, empty, found, given, progress);
     tx.rollback();

@@ -29,5 +29,5 @@ pub use opening::{closed, first_day, new_books, not_made, not_opened, opened_boo
 pub use over_files::{Left, Work, after_work, over, over_failing};
 pub use ports::free_port;
 pub use random_acts::random_requests;
-pub use rows::{QUERIES, shown};
+pub use rows::{QUERIES, gives, shown};
 pub use spread::{Spread, acts_on_each, answers_spread, line_of, of_act, of_numbers};

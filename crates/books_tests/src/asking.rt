@@ -130,7 +130,7 @@ fn is_served<S: Alter, L: Write>(
 ) -> bool {
     let mut reader = asked.as_bytes();
     let mut writer: Vec<u8> = Vec::new(alloc);
-    let served = house.serve_logged(&mut reader, &mut writer, log);
+    let served = house.serve_one_logged(&mut reader, &mut writer, log);
     assert!(rt; served.answered == Ok(()));
     is_answer(rt, writer.as_slice(), asked, expected);
     served.logged.is_ok()
@@ -177,7 +177,7 @@ fn is_full<S: Alter>(rt: &impl Abort, alloc: Global, house: &mut House<S>) {
     let mut room = [0; 8];
     let mut writer = room.as_mut_slice();
     let mut log: Vec<u8> = Vec::new(alloc);
-    let served = house.serve_logged(&mut reader, &mut writer, &mut log);
+    let served = house.serve_one_logged(&mut reader, &mut writer, &mut log);
     assert!(rt; served.answered == Err(ServeFault::Write));
     assert!(rt; served.logged.is_ok());
     assert!(rt; log.as_slice() == b"GET /items 405 133\n".as_slice());

@@ -4,7 +4,7 @@ use crate::asking::Asked;
 use crate::disk::run;
 use crate::steps::{On, Step};
 use crate::table::{Left, Table};
-use book_trials::{QUERIES, shown};
+use book_trials::{QUERIES, gives};
 use sqlite::{Alter, Connection};
 use std::alloc::Global;
 use std::process::Abort;
@@ -29,18 +29,6 @@ pub(crate) static TWO_CUSTOMERS_ROWS: [&str; 16] = [
     "",
 ];
 
-// The query gives these rows.
-pub(crate) fn gives<S: Alter>(
-    rt: &impl Abort,
-    alloc: Global,
-    conn: &mut Connection<S>,
-    query: &str,
-    expected: &str,
-) {
-    let found = shown(alloc, conn, query).expect(rt, "rows");
-    assert!(rt; found.as_str() == expected, "{query:?}");
-}
-
 // Each table has these rows, in the order of the queries above.
 pub(crate) fn has_rows<S: Alter>(
     rt: &impl Abort,
@@ -50,7 +38,7 @@ pub(crate) fn has_rows<S: Alter>(
 ) {
     assert!(rt; expected.len() == QUERIES.len());
     for (query, rows) in QUERIES.as_slice().iter().zip(expected) {
-        gives(rt, alloc, conn, query, rows);
+        assert!(rt; gives(alloc, conn, query, rows), "{query:?}");
     }
 }
 

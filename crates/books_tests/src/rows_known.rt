@@ -1,13 +1,14 @@
-//! Rows that a slice has read are known: the next slice has them from there, until a change puts one of them.
+//! Rows that a slice has read are known: the next slice has them from there, and they follow what is written.
 
 use crate::disk::run;
 use crate::samples;
 use crate::steps::{On, Step};
 use commands::limits::{BINS_MAX, ITEMS_MAX};
-use commands::{Command, Listed, LotRow};
+use commands::{Command, Listed, LotRow, reply};
 use open_orders::OpenLines;
-use row_rules::change_parts::none_put;
-use slices::{Bounds, Known, RowsKnown, know_put, read_slice};
+use row_rules::Change;
+use row_rules::change_parts::{none_dropped, none_put};
+use slices::{Bounds, Known, RowsKnown, read_slice};
 use sqlite::{Alter, Connection, Transaction};
 use std::alloc::Global;
 use std::process::Abort;
@@ -74,10 +75,37 @@ fn is_misled<S: Alter>(
     known: &mut Known,
     lot: &LotId,
 ) {
-    assert!(rt; known.rows.lots.rows_of(lot).is_some());
-    known.rows.lots.keep(lot, one(rt, alloc, other_row(rt)));
+    assert!(rt; known.rows.followed.lots.rows_of(lot).is_some());
+    known
+        .rows
+        .followed
+        .lots
+        .keep(lot, one(rt, alloc, other_row(rt)));
     let held = is_held(rt, alloc, tx, known, lot);
     assert!(rt; held == other_row(rt).held);
+}
+
+// A change puts the row that the tables have. It is known once the change is written, and not before.
+fn follows_put<S: Alter>(
+    rt: &impl Abort,
+    alloc: Global,
+    tx: &mut Transaction<'_, S>,
+    known: &mut Known,
+    lot: &LotId,
+) {
+    let mut put = none_put(alloc);
+    put.lots = Listed::from_vec(one(rt, alloc, samples::known_lot(rt)));
+    let change = Change {
+        meta: samples::meta(rt, 5),
+        put,
+        dropped: none_dropped(alloc),
+        text: reply(5, None),
+    };
+    assert!(rt; known.add_change(alloc, tx, &change.put).is_ok());
+    let held = is_held(rt, alloc, tx, known, lot);
+    assert!(rt; held == other_row(rt).held);
+    known.rows.followed.follow(&change);
+    drop(change);
 }
 
 /// The tables have a lot. What is known of it says otherwise, so it is seen where a slice has its row from.
@@ -90,11 +118,7 @@ pub(crate) fn tells_known<S: Alter>(rt: &impl Abort, alloc: Global, conn: &mut C
     let held = is_held(rt, alloc, &mut tx, &mut known, &lot);
     assert!(rt; held == is_stored);
     is_misled(rt, alloc, &mut tx, &mut known, &lot);
-    let mut put = none_put(alloc);
-    put.lots = Listed::from_vec(one(rt, alloc, other_row(rt)));
-    assert!(rt; know_put(alloc, &mut tx, &mut known, &put).is_ok());
-    drop(put);
-    assert!(rt; known.rows.lots.rows_of(&lot).is_none());
+    follows_put(rt, alloc, &mut tx, &mut known, &lot);
     let held = is_held(rt, alloc, &mut tx, &mut known, &lot);
     assert!(rt; held == is_stored);
     drop(known);
@@ -103,6 +127,6 @@ pub(crate) fn tells_known<S: Alter>(rt: &impl Abort, alloc: Global, conn: &mut C
 static EACH_ROW: [&[Step]; 1] = [&[Step::On(On::Fill), Step::On(On::TellKnown)]];
 
 #[test]
-fn rows_are_known_until_a_change_puts_them(rt: HostRuntime) {
+fn rows_are_known_and_follow_what_is_written(rt: HostRuntime) {
     run(&rt, rt.alloc(), EACH_ROW.as_slice());
 }

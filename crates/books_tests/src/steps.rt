@@ -7,10 +7,11 @@ use crate::filing::imported;
 use crate::gone_lots::puts_gone;
 use crate::lots_told::{Told, tells_of_lots};
 use crate::opening::{made, not_made, not_opened, opened};
-use crate::order_rows::{gives, has_rows};
+use crate::order_rows::has_rows;
 use crate::rows_known::tells_known;
 use crate::table::{Left, Table};
 use crate::table_rows::{creates_nothing, drops, fills, finds, is_no_schema, is_schema};
+use book_trials::gives;
 use books_schema::ready_connection::Orderly;
 use sqlite::{Alter, Connection};
 use std::alloc::Global;
@@ -73,7 +74,7 @@ pub(crate) enum On {
 fn do_on<S: Alter>(rt: &impl Abort, alloc: Global, conn: &mut Connection<S>, on: On) {
     match on {
         On::Run(text) => assert!(rt; conn.execute(text, &[]).is_ok()),
-        On::Gives(query, lines) => gives(rt, alloc, conn, query, lines),
+        On::Gives(query, lines) => assert!(rt; gives(alloc, conn, query, lines), "{query:?}"),
         On::HasRows(left) => has_rows(rt, alloc, conn, left.rows()),
         On::CreateNothing => creates_nothing(rt, conn),
         On::PutGone => puts_gone(rt, alloc, conn),

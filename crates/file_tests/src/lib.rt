@@ -32,8 +32,6 @@ mod over_host;
 #[cfg(test)]
 mod program_lines;
 #[cfg(test)]
-mod rows;
-#[cfg(test)]
 mod seen_rows;
 #[cfg(test)]
 mod steps;

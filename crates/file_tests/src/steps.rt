@@ -2,8 +2,7 @@
 
 use crate::old_files::{OLD_ROWS, OLD_TOLD};
 use crate::opening::books_of;
-use crate::rows::{gives, keeps_rows};
-use book_trials::{QUERIES, answers_line, not_opened};
+use book_trials::{QUERIES, answers_line, gives, not_opened};
 use books_schema::ready_connection::Orderly;
 use house::House;
 use sqlite::{Alter, Connection};
@@ -34,11 +33,24 @@ pub(crate) enum On {
     KeepsRows,
 }
 
+// The tables behind `meta` have these rows, as many tables as are told: those that a later schema has more are not.
+fn keeps_rows<S: Alter>(
+    rt: &impl Abort,
+    alloc: Global,
+    conn: &mut Connection<S>,
+    expected: &[&str],
+) {
+    assert!(rt; expected.len() < QUERIES.len());
+    for (query, rows) in QUERIES.as_slice().iter().skip(1).zip(expected) {
+        assert!(rt; gives(alloc, conn, query, rows), "{query:?}");
+    }
+}
+
 fn do_on<S: Alter>(rt: &impl Abort, alloc: Global, conn: &mut Connection<S>, on: On) {
     match on {
         On::Run(text) => assert!(rt; conn.execute(text, &[]).is_ok()),
-        On::Gives(query, lines) => gives(rt, alloc, conn, query, lines),
-        On::HasMeta(row) => gives(rt, alloc, conn, QUERIES[0], row),
+        On::Gives(query, lines) => assert!(rt; gives(alloc, conn, query, lines), "{query:?}"),
+        On::HasMeta(row) => assert!(rt; gives(alloc, conn, QUERIES[0], row), "{row:?}"),
         On::KeepsRows => keeps_rows(rt, alloc, conn, OLD_ROWS.as_slice()),
     }
 }

@@ -13,11 +13,12 @@ use commands::MetaRow;
 use commands::limits::{ACTS_MAX, SCHEMA_VERSION};
 use keyed_rows::running::count;
 use keyed_rows::table::{Changing, Table, put};
+use label::BusinessDay;
 use sqlite::{Alter, Row, Transaction};
 use std::alloc::Global;
-use table_words::columns::{
-    business_day_at, expect_mark, expect_number, number_at, of_business_day, of_mark, of_number,
-};
+use table_words::chain::Chain;
+use table_words::column::{Column, Number};
+use table_words::columns::{expect_mark, expect_number, of_mark, of_number};
 use table_words::error::TableFault;
 use table_words::reading::{Readable, query};
 
@@ -26,6 +27,9 @@ pub const NEWEST: u32 = SCHEMA_VERSION as u32;
 
 /// The table.
 pub struct Meta;
+
+/// The columns that are no constants.
+type Told = (BusinessDay, (Number<ACTS_MAX>, Number<ACTS_MAX>));
 
 impl Table for Meta {
     ghost use Rattle.goods_tables.specs.Meta.{meta, fits_meta, meta_laws};
@@ -57,7 +61,7 @@ impl Table for Meta {
             of_number(1),
             of_mark(),
             of_number(SCHEMA_VERSION),
-            of_business_day(row.day),
+            row.day.value(),
             of_number(row.acts),
             of_number(row.shipments),
         ];
@@ -79,14 +83,12 @@ fn row_at(version: u32, row: &Row) -> Result<MetaRow, TableFault>
         expect_number(row, 0, 1),
         expect_mark(row, 1),
         expect_number(row, 2, u64::from(version)),
-        business_day_at(row, 3),
-        number_at(row, 4, ACTS_MAX),
-        number_at(row, 5, ACTS_MAX),
+        Told::read_at(row, 3),
     ) {
-        (Ok(()), Ok(()), Ok(()), Ok(day), Ok(acts), Ok(shipments)) => Ok(MetaRow {
+        (Ok(()), Ok(()), Ok(()), Some((day, (acts, shipments)))) => Ok(MetaRow {
             day,
-            acts,
-            shipments,
+            acts: acts.number,
+            shipments: shipments.number,
         }),
         _ => Err(TableFault::Foreign),
     }

@@ -58,10 +58,8 @@ fn read_records<R: Read>(
     ensures count { IfOk result (λ rows. length rows ≤ ROWS_MAX) }
     ensures kinds { IfOk result (λ rows. All IsReceipt rows) }
 {
-    match read_header(reader, fields) {
-        Ok(()) => read_rows(alloc, reader, fields, today),
-        Err(fault) => Err(fault),
-    }
+    read_header(reader, fields)?;
+    read_rows(alloc, reader, fields, today)
 }
 
 fn read_header<R: Read>(reader: &mut Reader<R>, fields: &mut ByteRecord) -> Result<(), FileFault>
@@ -73,15 +71,10 @@ fn read_header<R: Read>(reader: &mut Reader<R>, fields: &mut ByteRecord) -> Resu
     ensures fault { IfErr result (λ e. e ≢ FileFault.Memory → e ≢ FileFault.Reader → (text : List ℕ) (today : ℤ)
         → Stands R.remaining text [] reader.old → file_read today text ≡ Err e) }
 {
-    match next_record(reader, fields) {
-        Ok(found) => {
-            if found && is_header(fields) {
-                Ok(())
-            } else {
-                Err(FileFault::Header)
-            }
-        }
-        Err(fault) => Err(fault),
+    if next_record(reader, fields)? && is_header(fields) {
+        Ok(())
+    } else {
+        Err(FileFault::Header)
     }
 }
 

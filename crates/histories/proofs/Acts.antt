@@ -6,19 +6,15 @@ use Rattle.std.proofs.lemmas.Bool.{cases_Bool}
 use Rattle.std.proofs.lemmas.Option.{same_Some, none-some}
 use Rattle.std.proofs.lemmas.Slice.Eq.{bytes_eq-Decides}
 use Rattle.values.specs.Values.{same_text}
-use Rattle.commands.specs.Spelling.{key_text, spelling}
+use Rattle.commands.specs.Spelling.{key_text}
 use Rattle.commands.specs.declared.rows.RepeatRow.{RepeatRow}
-use Rattle.machine.specs.Acts.{Act, next_number}
+use Rattle.machine.specs.Acts.{Act}
 use Rattle.machine.specs.Once.{IsHistory}
-use Rattle.machine.specs.Replies.{reply}
 use Rattle.machine.specs.Tables.{repeat_row}
-
--- the row of an act
-abbrev pub row_of : ℤ → Act → List Act → RepeatRow
-row_of first act before = record { k = key_text act.key; act = next_number before; spell = spelling act.command; reply = reply first act before }
+use Rattle.histories.specs.Books.{row_of}
 
 -- a row that is found has a number of those so far
-numbered : (first : ℤ) (acts : List Act) (k : List ℕ) (r : RepeatRow) → repeat_row first acts k ≡ Some r → r.act ≤ length acts
+pub numbered : (first : ℤ) (acts : List Act) (k : List ℕ) (r : RepeatRow) → repeat_row first acts k ≡ Some r → r.act ≤ length acts
 numbered first [] k r e = absurd (none-some r e)
 numbered first (act ∷ before) k r e = elim (cases_Bool (same_text k (key_text act.key))) [
   | inl hit ↦ let is : row_of first act before ≡ r = same_Some _ r (rw hit at e) in let n : length before + 1 ≡ r.act = ap (λ s. s.act) is in omega (arith, n)

@@ -1,22 +1,22 @@
 -- The rows of `repeats` in the books of a history, as they are handed over.
-use Rattle.std.proofs.Common.{◌≡◌, ℕ, Bool, true, List, [], ◌∷◌, refl, sym, subst, ap, ap₂, ◌∙◌, Option, Some, find, filter, inl, inr}
-use Rattle.std.specs.Prelude.{◌⊎◌, ℤ, Result, Ok, Err}
+use Rattle.std.proofs.Common.{◌≡◌, ℕ, true, List, [], ◌∷◌, refl, sym, subst, ap, ap₂, ◌∙◌, Option, Some, None, find, inl}
+use Rattle.std.specs.Prelude.{◌⊎◌, ℤ, Result, Ok, Err, option_map}
 use Rattle.std.specs.List.{AllByRecursion}
-use Rattle.std.proofs.lemmas.Bool.{cases_Bool}
-use Rattle.std.proofs.lemmas.Option.{same_Some}
-use Rattle.sqlite.specs.Order.{Row}
 use Rattle.sqlite.specs.State.{State, IsUnchanged, IsRolledBack}
 use Rattle.values.specs.Values.{same_text}
 use Rattle.commands.specs.declared.rows.CardRow.{CardRow}
 use Rattle.commands.specs.declared.rows.RepeatRow.{RepeatRow}
 use Rattle.commands.specs.Sinks.{Reaches, StopsWithin}
+use Rattle.spellings.specs.declared.start.Start.TheVariants.{Received}
 use Rattle.machine.specs.Acts.{Act}
 use Rattle.machine.specs.Once.{IsHistory}
+use Rattle.machine.specs.Standing.{today}
 use Rattle.machine.specs.Tables.{Tables, tables_of, card_row, repeat_row}
 use Rattle.table_words.specs.Cells.{typed}
 use Rattle.table_words.specs.Steps.{IsReady}
 use Rattle.table_words.specs.Typed.{tables_in, CardKey, same_card, card_key}
 use Rattle.table_words.proofs.KeyLemmas.{itself_bytes, same_bytes}
+use Rattle.table_words.proofs.CellLemmas.{typed_some}
 use Rattle.table_words.specs.Found.{no_two}
 use Rattle.table_words.specs.declared.error.TableFault.TheVariants.{Store, Foreign}
 use Rattle.each_row.specs.declared.fault.EachFault.{EachFault}
@@ -32,29 +32,11 @@ use Rattle.whole_tables.proofs.Handing.{typed_are_all}
 use Rattle.histories.specs.Text.{history_text}
 use Rattle.histories.specs.Books.{HasRowsOf}
 use Rattle.histories.specs.Lines.{AddsLine, CutsLine}
-use Rattle.histories.specs.Start.{IsPassed, TellsDay}
+use Rattle.histories.specs.Start.{IsStartBy, IsPassed, TellsDay}
 use Rattle.histories.specs.declared.lines.HistoryLines.{HistoryLines}
 use Rattle.histories.specs.declared.start.CardDay.{CardDay}
 use Rattle.whole_tables.proofs.Owned.{owned, at_place}
 use Rattle.histories.proofs.Printed.{none_yet, all_written, some_written, cut_written}
-
--- what holds of all typed rows holds of those among some of the rows
-typed_some : {X : Type 0} (P : X → Type 0) (is : Row → Bool) (read : Row → X) (part : Row → Bool) (rows : List Row) → AllByRecursion P (typed is read rows) → AllByRecursion P (typed is read (filter part rows))
-typed_some P is read part [] all = tt
-typed_some P is read part (r ∷ rows) all = elim (cases_Bool (is r)) [
-  | inl typed_one ↦
-      let both = rw typed_one at all in
-      elim (cases_Bool (part r)) [
-        | inl within ↦ rw (within, typed_one) (both.0, typed_some P is read part rows both.1)
-        | inr without ↦ rw without (typed_some P is read part rows both.1)
-      ]
-  | inr untyped ↦
-      let others = rw untyped at all in
-      elim (cases_Bool (part r)) [
-        | inl within ↦ rw (within, untyped) (typed_some P is read part rows others)
-        | inr without ↦ rw without (typed_some P is read part rows others)
-      ]
-]
 
 module _ (first : ℤ) (acts : List Act) (history : IsHistory first acts) (old : State) (ready : IsReady old.now) (held : HasRowsOf first acts old.now.trees) where
   abbrev pub rows : List RepeatRow
@@ -100,17 +82,24 @@ module _ (first : ℤ) (acts : List Act) (history : IsHistory first acts) (old :
   pub lines_own : AllByRecursion (λ (r : CardRow). card_row first acts r.lot r.act ≡ Some r) lines
   lines_own = owned same_card card_key cards_laws.itself cards_laws.one_key {row = λ key. card_row first acts key.0 key.1} lines lines_are.once line_found
 
-still : (taken : List CardRow) (start last : CardDay) → Reaches IsPassed start taken last → (last.lot ≡ start.lot) × (last.act ≡ start.act)
+-- where no act tells the day, it is the business day
+pub today_told : (first : ℤ) (acts : List Act) (day : ℤ) → day ≡ today first acts → IsStartBy first acts None day
+unfolding tables_of
+today_told first acts day is = ap Some (sym is)
+
+-- the line that is sought stays the same
+pub still : (taken : List CardRow) (start last : CardDay) → Reaches IsPassed start taken last → (last.lot ≡ start.lot) × (last.act ≡ start.act)
 still [] start last is = (ap (λ (d : CardDay). d.lot) is, ap (λ (d : CardDay). d.act) is)
 still (r ∷ taken) start last h = let more = still taken h.0 last h.2 in (more.0 ∙ h.1.0, more.1 ∙ h.1.1)
 
 -- the card lines are passed up to that of the act
 pub day_told : (first : ℤ) (acts : List Act) (all : List CardRow) → AllByRecursion (λ (r : CardRow). card_row first acts r.lot r.act ≡ Some r) all → (start after : CardDay) → StopsWithin IsPassed TellsDay start all after
-    → (day : ℤ) → after.day ≡ Some day → (row : CardRow) × (card_row first acts start.lot start.act ≡ Some row) × (day ≡ row.day)
+    → (day : ℤ) → after.day ≡ Some day → IsStartBy first acts (Some (Received start.lot start.act)) day
+unfolding tables_of
 day_told first acts all own start after h day is =
     let there = at_place (λ (r : CardRow). card_row first acts r.lot r.act ≡ Some r) h.taken h.others h.next (subst (AllByRecursion (λ (r : CardRow). card_row first acts r.lot r.act ≡ Some r)) h.parts own) in
     let same = still h.taken start h.last h.reached in
-    (h.next, sym (ap₂ (card_row first acts) (h.stopped.0 ∙ same.0) (h.stopped.1 ∙ same.1)) ∙ there, same_Some day h.next.day (sym is ∙ h.stopped.2))
+    ap (option_map (λ (c : CardRow). c.day)) (sym (ap₂ (card_row first acts) (h.stopped.0 ∙ same.0) (h.stopped.1 ∙ same.1)) ∙ there) ∙ sym h.stopped.2 ∙ is
 
 -- the connection shows what it did, or what the last commit left
 pub stays : (old new : State) (r : Result Unit EachFault) → IsLeft old new r → IsUnchanged old new ⊎ IsRolledBack old new

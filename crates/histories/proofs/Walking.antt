@@ -9,7 +9,8 @@ use Rattle.commands.specs.declared.rows.RepeatRow.{RepeatRow}
 use Rattle.machine.specs.Acts.{Act}
 use Rattle.machine.specs.Once.{IsHistory}
 use Rattle.machine.specs.Tables.{repeat_row}
-use Rattle.histories.proofs.Acts.{row_of, Next, next_act, earlier, found_all, newest}
+use Rattle.histories.specs.Books.{row_of}
+use Rattle.histories.proofs.Acts.{Next, next_act, earlier, found_all, newest}
 
 -- a sink that takes the row of the next act alone keeps this
 pub record Walks {S : Type 0} (first : ℤ) (takes : S → RepeatRow → S → Type 0) (done : S → ℕ) (Keeps : S → List Act → Type 0) : Type 0 where

@@ -1,70 +1,49 @@
--- The day on which the acts begin, as far as the tables tell it.
-use Rattle.std.specs.Prelude.{◌≡◌, ◌⊎◌, ℕ, ℤ, negsuc, ◌+ℤ◌, ◌+◌, List, [], ◌∷◌, Option, Some, None, IsTrue}
-use Rattle.values.specs.declared.lot.LotId.{LotId}
-use Rattle.commands.specs.Sound.{is_sound}
-use Rattle.commands.specs.Spelling.{spelling}
-use Rattle.commands.specs.declared.command.Command.{Command}
-use Rattle.commands.specs.declared.command.Command.TheVariants.{Receive, OpenDay}
+-- The day on which the acts began, as far as their tables tell it.
+use Rattle.std.specs.Prelude.{◌≡◌, ◌⊎◌, ◌+◌, ℤ, List, [], ◌∷◌, Option, Some, None, option_map}
+use Rattle.commands.specs.declared.rows.MetaRow.{MetaRow}
 use Rattle.commands.specs.declared.rows.CardRow.{CardRow}
 use Rattle.commands.specs.declared.rows.RepeatRow.{RepeatRow}
+use Rattle.spellings.specs.Starting.{told_by, Tells, day_before}
+use Rattle.spellings.specs.declared.start.Start.{Start}
+use Rattle.spellings.specs.declared.start.Start.TheVariants.{Received, Opened}
 use Rattle.machine.specs.Acts.{Act, next_number}
-use Rattle.machine.specs.Standing.{today}
-use Rattle.machine.specs.Tables.{card_row}
-use Rattle.histories.specs.declared.dated.Dated.{Dated}
-use Rattle.histories.specs.declared.dated.Dated.TheVariants.{Receipt, Opening}
-use Rattle.histories.specs.declared.dated.FirstDated.{FirstDated}
+use Rattle.machine.specs.Tables.{Tables, tables_of}
+use Rattle.histories.specs.declared.first_start.FirstStart.{FirstStart}
 use Rattle.histories.specs.declared.start.CardDay.{CardDay}
 
--- what tells of a day: a receipt, whose card line has its day, and the opening of one, which comes after another
-abbrev pub dated : ℕ → Command → Option Dated
-dated n (Receive r) = Some (Receipt r.lot n)
-dated n (OpenDay day) = Some (Opening (day +ℤ negsuc 0))
-dated n _ = None
+-- what the older acts tell, or else this one
+abbrev pub told_first : Option Start → Option Start → Option Start
+told_first None newer = newer
+told_first (Some older) newer = Some older
 
-abbrev pub or_else : {X : Type 0} → Option X → Option X → Option X
-or_else None other = other
-or_else (Some x) other = Some x
+-- what the oldest act tells that receives or opens a day
+abbrev pub start_of : List Act → Option Start
+start_of [] = None
+start_of (act ∷ before) = told_first (start_of before) (told_by (next_number before) act.command)
 
--- the first of the acts that does
-abbrev pub first_dated : List Act → Option Dated
-first_dated [] = None
-first_dated (act ∷ before) = or_else (first_dated before) (dated (next_number before) act.command)
+-- The day is that of the books where no act tells it, that of the line of the first receipt in its lot's card, or the day
+-- before the first that was opened.
+abbrev pub first_day : Tables → Option Start → Option ℤ
+first_day t None = option_map (λ (m : MetaRow). m.day) t.meta
+first_day t (Some (Received lot act)) = option_map (λ (c : CardRow). c.day) (t.card lot act)
+first_day t (Some (Opened day)) = Some (day_before day)
 
--- the receipt, if it is one
-abbrev pub receipt : Option Dated → Option (LotId × ℕ)
-receipt (Some (Receipt lot number)) = Some (lot, number)
-receipt (Some (Opening last)) = None
-receipt None = None
-
--- the day where it is none
-abbrev pub day_without_receipt : Option Dated → ℤ → ℤ
-day_without_receipt (Some (Opening last)) today = last
-day_without_receipt (Some (Receipt lot number)) today = today
-day_without_receipt None today = today
-
--- The day on which they began, as the tables tell it: that of the card line of the first receipt; where a day was opened before
--- anything was received, the day before that; else the business day.
-abbrev pub IsStartBy : ℤ → List Act → Option Dated → ℤ → Type 0
-IsStartBy first acts (Some (Receipt lot number)) begun = (row : CardRow) × (card_row first acts lot number ≡ Some row) × (begun ≡ row.day)
-IsStartBy first acts (Some (Opening last)) begun = begun ≡ last
-IsStartBy first acts None begun = begun ≡ today first acts
+-- the day that the tables of the acts tell, where this is what the acts do
+abbrev pub IsStartBy : ℤ → List Act → Option Start → ℤ → Type 0
+IsStartBy first acts start begun = first_day (tables_of first acts) start ≡ Some begun
 
 abbrev pub IsStart : ℤ → List Act → ℤ → Type 0
-IsStart first acts begun = IsStartBy first acts (first_dated acts) begun
+IsStart first acts begun = IsStartBy first acts (start_of acts) begun
 
--- the row spells a command that is dated so
-abbrev pub IsDated : RepeatRow → Option Dated → Type 0
-IsDated row found = (command : Command) → IsTrue (is_sound command) → row.spell ≡ spelling command → dated row.act command ≡ found
-
--- the row is of the next act, and is not dated
-pub record Passes (before : FirstDated) (row : RepeatRow) (after : FirstDated) : Type 0 where
+-- the row is of the next act, and tells nothing
+pub record Passes (before : FirstStart) (row : RepeatRow) (after : FirstStart) : Type 0 where
   pub turn : row.act ≡ before.done + 1
   pub done : after.done ≡ before.done + 1
-  pub undated : IsDated row None
+  pub nothing : Tells row None
 
--- it is dated, or it is not of the next act, or could not be read
-abbrev pub Finds : (before : FirstDated) → RepeatRow → (after : FirstDated) → Type 0
-Finds before row after = (after.found ≡ None) ⊎ ((row.act ≡ before.done + 1) × IsDated row after.found)
+-- it tells what was found, or it is not of the next act, or could not be read
+abbrev pub Finds : (before : FirstStart) → RepeatRow → (after : FirstStart) → Type 0
+Finds before row after = (after.found ≡ None) ⊎ ((row.act ≡ before.done + 1) × Tells row after.found)
 
 -- a card line of another act or lot is passed, and that of the act tells its day
 abbrev pub IsPassed : CardDay → CardRow → CardDay → Type 0

@@ -15,7 +15,7 @@ ghost use Rattle.histories.specs.Newer.{IsPrintedAbove};
 
 use crate::HistoryFault;
 use crate::lines::HistoryLines;
-use crate::start::find_start;
+use crate::start::find_first_day;
 use history_tables::repeats::Repeats;
 use label::Day;
 use sqlite::{Alter, Connection};
@@ -37,7 +37,7 @@ pub fn print_history<S: Alter, W: Write>(
     ensures outside { conn.old.in_transaction ≡ false → conn.new.in_transaction ≡ false }
     ensures survives { Survives (state S.Store conn.old) (state S.Store conn.new) (λ _. ¬ IsReady (state S.Store conn.old).now) }
 {
-    match find_start(alloc, conn, today) {
+    match find_first_day(alloc, conn, today) {
         Ok(begun) => print_from(alloc, conn, begun, out),
         Err(fault) => (out, Err(fault)),
     }

@@ -6,22 +6,23 @@ ghost use Rattle.sqlite.specs.State.{HasCleanDisk, Survives, IsUnchanged, IsRoll
 ghost use Rattle.machine.specs.Acts.{Act};
 ghost use Rattle.machine.specs.Once.{IsHistory};
 ghost use Rattle.machine.specs.Standing.{today as today_of};
-ghost use Rattle.machine.specs.Tables.{card_row};
-ghost use Rattle.commands.specs.declared.rows.CardRow.{CardRow as Record};
+ghost use Rattle.spellings.specs.Starting.{day_before as day_before_lem};
+ghost use Rattle.spellings.specs.declared.start.Start.TheVariants.{Received};
 ghost use Rattle.table_words.specs.Steps.{IsReady};
 ghost use Rattle.each_row.specs.declared.fault.EachFault.TheVariants.{Stopped};
 ghost use Rattle.histories.specs.Books.{HasRowsOf};
 ghost use Rattle.histories.specs.Faults.{fault_of};
-ghost use Rattle.histories.specs.Start.{IsStart, first_dated, receipt, day_without_receipt};
+ghost use Rattle.histories.specs.Start.{IsStart, IsStartBy, start_of};
 ghost use Rattle.histories.specs.declared.fault.HistoryFault.TheVariants.{Foreign};
 
 use crate::HistoryFault;
-use crate::dated::{Dated, FirstDated};
+use crate::first_start::FirstStart;
 use commands::{CardRow, Sink, Stop};
 use each_row::EachFault;
 use history_tables::cards::Cards;
 use history_tables::repeats::Repeats;
-use label::Day;
+use label::{BusinessDay, Day};
+use spellings::{Start, day_before};
 use sqlite::{Alter, Connection};
 use std::alloc::Global;
 use values::LotId;
@@ -53,7 +54,7 @@ impl Sink<CardRow> for CardDay {
 
 /// The day on which the acts of the books began, as the tables tell it; `today` is the business day after them. Nothing
 /// is changed.
-pub(crate) fn find_start<S: Alter>(
+pub(crate) fn find_first_day<S: Alter>(
     alloc: Global,
     conn: &mut Connection<S>,
     today: Day,
@@ -65,64 +66,53 @@ pub(crate) fn find_start<S: Alter>(
     ensures outside { conn.old.in_transaction ≡ false → conn.new.in_transaction ≡ false }
     ensures survives { Survives (state S.Store conn.old) (state S.Store conn.new) (λ _. ¬ IsReady (state S.Store conn.old).now) }
 {
-    let found = find_dated(alloc, conn)?;
-    match receipt_of(&found) {
-        Some((lot, act)) => card_day(alloc, conn, &lot, act),
-        None => Ok(day_known(&found, today)),
+    let Some(start) = find_start(alloc, conn)? else {
+        return Ok(today);
+    };
+    match start {
+        Start::Received(lot, act) => card_day(alloc, conn, lot, act),
+        Start::Opened(day) => Ok(last_before(day)),
     }
 }
 
-/// The lot and the act of the receipt that was found.
-fn receipt_of(found: &Option<Dated>) -> Option<(LotId, u64)>
-    ensures { result ≡ receipt found.now }
+/// The day before one that was opened.
+fn last_before(opened: BusinessDay) -> Day
+    ensures { result ≡ day_before_lem opened }
 {
-    match found {
-        Some(Dated::Receipt(lot, act)) => Some((*lot, *act)),
-        _ => None,
-    }
+    day_before(opened).day()
 }
 
-/// The day before the one whose opening was found, and else the business day.
-fn day_known(found: &Option<Dated>, today: Day) -> Day
-    ensures { result ≡ day_without_receipt found.now today }
-{
-    match found {
-        Some(Dated::Opening(last)) => *last,
-        _ => today,
-    }
-}
-
-/// What the first act that tells of a day tells, if there is one.
-fn find_dated<S: Alter>(
+/// What the first act tells that tells of the day, if there is one.
+fn find_start<S: Alter>(
     alloc: Global,
     conn: &mut Connection<S>,
-) -> Result<Option<Dated>, HistoryFault>
-    ensures dated { HasCleanDisk (state S.Store conn.new) → IsReady (state S.Store conn.old).now → (first : ℤ) (acts : List Act) → IsHistory first acts → HasRowsOf first acts (state S.Store conn.old).now.trees
-        → IfOk result (λ found. found ≡ first_dated acts) }
+) -> Result<Option<Start>, HistoryFault>
+    ensures found { HasCleanDisk (state S.Store conn.new) → IsReady (state S.Store conn.old).now → (first : ℤ) (acts : List Act) → IsHistory first acts → HasRowsOf first acts (state S.Store conn.old).now.trees
+        → IfOk result (λ found. found ≡ start_of acts) }
     ensures same { HasCleanDisk (state S.Store conn.new) → IsReady (state S.Store conn.old).now → OnOk result (IsUnchanged (state S.Store conn.old) (state S.Store conn.new)) }
     ensures left { HasCleanDisk (state S.Store conn.new) → IsReady (state S.Store conn.old).now → IsUnchanged (state S.Store conn.old) (state S.Store conn.new) ⊎ IsRolledBack (state S.Store conn.old) (state S.Store conn.new) }
     ensures outside { conn.old.in_transaction ≡ false → conn.new.in_transaction ≡ false }
     ensures survives { Survives (state S.Store conn.old) (state S.Store conn.new) (λ _. ¬ IsReady (state S.Store conn.old).now) }
 {
-    let mut rows = FirstDated {
+    let mut rows = FirstStart {
         alloc,
         done: 0,
         found: None,
         fault: HistoryFault::Foreign,
     };
-    match each_of_all::<Repeats, S, FirstDated>(alloc, conn, &mut rows) {
+    match each_of_all::<Repeats, S, FirstStart>(alloc, conn, &mut rows) {
         Ok(()) => Ok(None),
         Err(cause) => found_at(cause, &rows),
     }
 }
 
 /// What was found where the rows came to an end.
-fn found_at(cause: EachFault, rows: &FirstDated) -> Result<Option<Dated>, HistoryFault>
+fn found_at(cause: EachFault, rows: &FirstStart) -> Result<Option<Start>, HistoryFault>
     ensures found { IfOk result (λ found. (cause ≡ Stopped) × (found ≡ rows.now.found) × (found ≢ None)) }
     ensures fault { IfErr result (λ fault. (fault ≡ fault_of cause rows.now.fault) × (cause ≡ Stopped → rows.now.found ≡ None)) }
 {
     match (cause, rows.found) {
-        (EachFault::Stopped, Some(dated)) => Ok(Some(dated)),
+        (EachFault::Stopped, Some(start)) => Ok(Some(start)),
         (cause, _) => Err(HistoryFault::of(cause, rows.fault)),
     }
 }
@@ -131,18 +121,18 @@ fn found_at(cause: EachFault, rows: &FirstDated) -> Result<Option<Dated>, Histor
 fn card_day<S: Alter>(
     alloc: Global,
     conn: &mut Connection<S>,
-    lot: &LotId,
+    lot: LotId,
     act: u64,
 ) -> Result<Day, HistoryFault>
     ensures day { HasCleanDisk (state S.Store conn.new) → IsReady (state S.Store conn.old).now → (first : ℤ) (acts : List Act) → IsHistory first acts → HasRowsOf first acts (state S.Store conn.old).now.trees
-        → IfOk result (λ day. (row : Record) × (card_row first acts lot.now act ≡ Some row) × (day ≡ row.day)) }
+        → IfOk result (IsStartBy first acts (Some (Received lot act))) }
     ensures same { HasCleanDisk (state S.Store conn.new) → IsReady (state S.Store conn.old).now → OnOk result (IsUnchanged (state S.Store conn.old) (state S.Store conn.new)) }
     ensures left { HasCleanDisk (state S.Store conn.new) → IsReady (state S.Store conn.old).now → IsUnchanged (state S.Store conn.old) (state S.Store conn.new) ⊎ IsRolledBack (state S.Store conn.old) (state S.Store conn.new) }
     ensures outside { conn.old.in_transaction ≡ false → conn.new.in_transaction ≡ false }
     ensures survives { Survives (state S.Store conn.old) (state S.Store conn.new) (λ _. ¬ IsReady (state S.Store conn.old).now) }
 {
     let mut line = CardDay {
-        lot: *lot,
+        lot,
         act,
         day: None,
     };

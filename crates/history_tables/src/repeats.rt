@@ -14,14 +14,13 @@ ghost use Rattle.history_tables.specs.Repeats.{repeats};
 use crate::texts::{ADD_REPEAT, REPEATS_OF};
 use commands::RepeatRow;
 use commands::limits::{ACTS_MAX, KEY_TEXT_MAX};
-use keyed_rows::reading::{Sought, query_rows, seek};
+use keyed_rows::reading::{SoughtBy, seek};
 use keyed_rows::running::count;
 use keyed_rows::table::{Table, add};
 use sqlite::{Alter, Row, Transaction};
 use std::alloc::Global;
-use table_words::columns::{
-    count_at, key_text_at, of_number, of_short, of_spelling, of_text, short_at, spelling_at,
-};
+use table_words::column::{Column, Count, read_column};
+use table_words::columns::{of_number, of_spelling, spelling_at};
 use table_words::error::TableFault;
 use values::Text;
 
@@ -55,24 +54,24 @@ impl Table for Repeats {
         row: &RepeatRow,
     ) -> Result<usize, TableFault> {
         let cells = [
-            of_text(&row.k),
+            row.k.value(),
             of_number(row.act),
             of_spelling(&row.spell),
-            of_short(&row.reply),
+            row.reply.value(),
         ];
         count(tx, sql, &cells)
     }
 
     fn read(alloc: Global, row: &Row) -> Result<RepeatRow, TableFault> {
         match (
-            key_text_at(row, 0),
-            count_at(row, 1, ACTS_MAX),
-            short_at(row, 3),
+            read_column(row, 0),
+            read_column::<Count<ACTS_MAX>>(row, 1),
+            read_column(row, 3),
         ) {
-            (Ok(k), Ok(act), Ok(reply)) => match spelling_at(alloc, row, 2) {
+            (Some(k), Some(act), Some(reply)) => match spelling_at(alloc, row, 2) {
                 Ok(spell) => Ok(RepeatRow {
                     k,
-                    act,
+                    act: act.number,
                     spell,
                     reply,
                 }),
@@ -83,26 +82,20 @@ impl Table for Repeats {
     }
 }
 
-impl Sought<Text<KEY_TEXT_MAX>> for Repeats {
+impl SoughtBy<Text<KEY_TEXT_MAX>> for Repeats {
+    ghost use Rattle.std.specs.Prelude.{refl};
     ghost use Rattle.history_tables.specs.Repeats.{repeats_of, AreRepeatsOf, repeats_of_laws};
 
-    ghost query = { repeats_of };
+    ghost asks = { repeats_of };
 
-    ghost are_of = { AreRepeatsOf };
+    ghost answers = { AreRepeatsOf };
 
-    ghost query_laws = { repeats_of_laws };
+    ghost asked = { record { few = refl; fits = λ by may. refl; cells = λ by. refl } };
 
-    fn query_text(_: &Text<KEY_TEXT_MAX>) -> &'static str {
+    ghost asks_laws = { repeats_of_laws };
+
+    fn asking_text() -> &'static str {
         REPEATS_OF
-    }
-
-    fn run_query<S: Alter>(
-        alloc: Global,
-        tx: &mut Transaction<'_, S>,
-        sql: &str,
-        k: &Text<KEY_TEXT_MAX>,
-    ) -> Result<Vec<RepeatRow>, TableFault> {
-        query_rows::<Repeats, S>(alloc, tx, sql, &[of_text(k)])
     }
 }
 

@@ -49,12 +49,13 @@ impl<S: Alter> House<S> {
             → IsServedAnyhow S.Store (R.remaining reader.old) (R.remaining reader.new) (books_of self.old) (books_of self.new) (Writes result (W.contents writer.old) (W.contents writer.new)) }
         ensures unread { result ≡ Err ServeFault.Read → (books_of self.new ≡ books_of self.old) × (writer.new ≡ writer.old) }
     {
-        self.serve_logged(reader, writer, &mut io::sink()).answered
+        self.serve_one_logged(reader, writer, &mut io::sink())
+            .answered
     }
 
     /// The same, and behind the answer the log gets its line, as `write_log_line` has it, whether or not the writer took the
     /// answer. Where the reader fails it gets none. The answer and the books do not depend on the log.
-    pub fn serve_logged<R: Read, W: Write, L: Write>(
+    pub fn serve_one_logged<R: Read, W: Write, L: Write>(
         &mut self,
         reader: &mut R,
         writer: &mut W,
@@ -70,13 +71,13 @@ impl<S: Alter> House<S> {
             × IsLogged result.logged (L.contents log.old) (L.contents log.new) s.text s.bytes }
         ensures unread { result.answered ≡ Err ServeFault.Read → (books_of self.new ≡ books_of self.old) × (writer.new ≡ writer.old) × (log.new ≡ log.old) × (result.logged ≡ Ok tt) }
     {
-        self.serve_kept(reader, writer, log, &mut NoKeeper)
+        self.serve_one_kept(reader, writer, log, &mut NoKeeper)
     }
 
     /// The same, and what was done is kept before a byte of its answer is written. The keeper is asked where an act or a file
     /// is answered with status 200. Where it fails what was done stands and nothing is written: the same request gets its
     /// answer when it comes again.
-    pub fn serve_kept<R: Read, W: Write, L: Write, K: Keeper<S>>(
+    pub fn serve_one_kept<R: Read, W: Write, L: Write, K: Keeper<S>>(
         &mut self,
         reader: &mut R,
         writer: &mut W,

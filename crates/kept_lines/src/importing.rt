@@ -133,10 +133,8 @@ pub fn import_kept<S: Alter, D: Disk, R: Read + Drop, W: Write>(
         → LeavesOnly first older (state S.Store books.old.conn) → KeepsActs D.Disk begun older acts.old
         → IsImportedBeside S.Store first older (λ all. KeepsActs D.Disk begun all acts.new) (BeginsWithActs D.Disk begun older acts.new) (R.remaining file) result books.new (W.contents out.old) (W.contents out.new) }
 {
-    match take_in(alloc, books, file) {
-        Ok(tally) => keep_and_tell(alloc, books, acts, tally, out),
-        Err(fault) => Err(fault),
-    }
+    let tally = take_in(alloc, books, file)?;
+    keep_and_tell(alloc, books, acts, tally, out)
 }
 
 /// Keeps the acts that the file lacks, and then prints the tally.

@@ -57,10 +57,8 @@ fn begun_beside<S: Alter, D: Disk>(
     ensures fault { IfErr result IsNoMisfit }
     ensures survives { Survives (state S.Store books.old.conn) (state S.Store books.new.conn) (NoHistory S.Store books.old) }
 {
-    match head_of(alloc, disk) {
-        Ok(head) => begun_by(alloc, books, head.as_slice()),
-        Err(fault) => Err(fault),
-    }
+    let head = head_of(alloc, disk)?;
+    begun_by(alloc, books, head.as_slice())
 }
 
 /// The day on which the acts of the books began, whose file begins so.

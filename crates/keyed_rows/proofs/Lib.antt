@@ -1,4 +1,3 @@
 pub mod Laws
 pub mod Writing
 pub mod Above
-pub mod Eight

@@ -12,7 +12,7 @@ use sqlite::types::ValueRef;
 use sqlite::{Alter, Row, Transaction};
 use std::alloc::Global;
 use std::marker::PhantomData;
-use table_words::chain::Chain;
+use table_words::chain::{Chain, values};
 use table_words::error::TableFault;
 use table_words::reading::{Readable, query};
 
@@ -57,17 +57,7 @@ fn query_with<T: Table, C: Chain, S: Alter>(
     ensures same_reference { tx.new.conn.ghost_name ≡ tx.old.conn.ghost_name }
     ensures queried { Queried T.table.has T.table.seen sql.now (C.columns.cells columns.now) (state S.Store tx.old.conn.now) (state S.Store tx.new.conn.now) result }
 {
-    let cells = [
-        columns.value_at(0),
-        columns.value_at(1),
-        columns.value_at(2),
-        columns.value_at(3),
-        columns.value_at(4),
-        columns.value_at(5),
-        columns.value_at(6),
-        columns.value_at(7),
-    ];
-    query_rows::<T, S>(alloc, tx, sql, &cells[..C::count()])
+    query_rows::<T, S>(alloc, tx, sql, &values(columns)[..C::count()])
 }
 
 /// What every row is sought by.

@@ -7,7 +7,7 @@ ghost use Rattle.keyed_rows.specs.Writes.{Ran};
 
 use sqlite::types::ValueRef;
 use sqlite::{Alter, Transaction};
-use table_words::chain::Chain;
+use table_words::chain::{Chain, values};
 use table_words::error::TableFault;
 
 /// Runs the statement, and tells how many rows it wrote.
@@ -38,15 +38,5 @@ pub fn run_with<C: Chain, S: Alter>(
     ensures rule { C.columns.has 0 (C.columns.cells columns.now) ≡ true }
 {
     columns.is_stored();
-    let cells = [
-        columns.value_at(0),
-        columns.value_at(1),
-        columns.value_at(2),
-        columns.value_at(3),
-        columns.value_at(4),
-        columns.value_at(5),
-        columns.value_at(6),
-        columns.value_at(7),
-    ];
-    count(tx, sql, &cells[..C::count()])
+    count(tx, sql, &values(columns)[..C::count()])
 }

@@ -1,7 +1,8 @@
 //! Keys that tell exactly, and rows that have a key among others.
 
-use commands::{StagedRow, StockRow};
-use values::TextKey;
+use commands::{LineRow, LotRow, OrderRow, StagedRow, StockRow, UrgentRow};
+use slice_lists::LineKey;
+use values::{LotKey, TextKey};
 
 /// A key that compares as equal with itself alone.
 pub trait ExactKey: Ord + Copy {
@@ -26,6 +27,58 @@ impl ExactKey for TextKey {
     ghost use Rattle.known_rows.specs.Keyed.{text_one};
 
     ghost one_key = { text_one };
+}
+
+impl ExactKey for LotKey {
+    ghost use Rattle.known_rows.specs.Keyed.{lot_one};
+
+    ghost one_key = { lot_one };
+}
+
+impl ExactKey for LineKey {
+    ghost use Rattle.known_rows.specs.Keyed.{line_one};
+
+    ghost one_key = { line_one };
+}
+
+impl KeyedRow for LotRow {
+    ghost use Rattle.known_rows.specs.Keyed.{same_lot_row};
+
+    ghost same_row = { same_lot_row };
+
+    fn is_same(&self, other: &Self) -> bool {
+        self.lot == other.lot
+    }
+}
+
+impl KeyedRow for OrderRow {
+    ghost use Rattle.known_rows.specs.Keyed.{same_order_row};
+
+    ghost same_row = { same_order_row };
+
+    fn is_same(&self, other: &Self) -> bool {
+        self.order == other.order
+    }
+}
+
+impl KeyedRow for UrgentRow {
+    ghost use Rattle.known_rows.specs.Keyed.{same_urgent_row};
+
+    ghost same_row = { same_urgent_row };
+
+    fn is_same(&self, other: &Self) -> bool {
+        self.order == other.order
+    }
+}
+
+impl KeyedRow for LineRow {
+    ghost use Rattle.known_rows.specs.Keyed.{same_line_row};
+
+    ghost same_row = { same_line_row };
+
+    fn is_same(&self, other: &Self) -> bool {
+        self.order == other.order && self.gtin == other.gtin
+    }
 }
 
 impl KeyedRow for StockRow {

@@ -29,9 +29,11 @@ use Rattle.machine.specs.Tables.{tables_of, repeat_row}
 use Rattle.machine.proofs.Tests.{and_both}
 use Rattle.machine.proofs.histories.Accepted.{room_for_acts, ship_accepted, day_accepted}
 use Rattle.machine.proofs.histories.KnownPlaces.{AllKnown, known_postings}
-use Rattle.replays.specs.declared.start.Start.{Start}
-use Rattle.replays.specs.declared.start.Start.TheVariants.{Received, Opened}
-use Rattle.replays.specs.Starting.{told_by, told_first, start_of, day_before, first_day, TheDayThatIsToldStands}
+use Rattle.spellings.specs.Starting.{told_by, day_before}
+use Rattle.spellings.specs.declared.start.Start.{Start}
+use Rattle.spellings.specs.declared.start.Start.TheVariants.{Received, Opened}
+use Rattle.histories.specs.Start.{told_first, start_of, first_day}
+use Rattle.replays.specs.Starting.{TheDayThatIsToldStands}
 use Rattle.replays.proofs.FirstDay.{none_older, untold_day, untold_lots, first_day_told}
 use Rattle.replays.specs.Alike.{FindTheSame}
 use Rattle.replays.proofs.Alike.{one_tables}
@@ -329,6 +331,9 @@ before_is_business first day b l =
     let at_least : int_le (pos 10_957) (day -ℤ pos 1) ≡ true = grind (arith, ints) in
     let at_most : int_le (day -ℤ pos 1) (pos 84_005) ≡ true = grind (arith, ints) in
     and_from _ _ at_least at_most
+
+pub before_opened : (first day : ℤ) (acts : List Act) → IsHistory first acts → start_of acts ≡ Some (Opened day) → day_before day ≡ day -ℤ pos 1
+before_opened first day acts h is = let business = before_is_business first day (began_on_business first acts h) (opened_later first day acts h is) in rw business refl
 
 pub told_day_stands : TheDayThatIsToldStands
 told_day_stands first day acts h e = by_start (start_of acts) refl

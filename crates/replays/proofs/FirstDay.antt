@@ -24,9 +24,11 @@ use Rattle.machine.specs.Once.{IsHistory}
 use Rattle.machine.specs.Tables.{tables_of, card_row}
 use Rattle.machine.proofs.Tests.{is_lot_refl, and_both}
 use Rattle.machine.proofs.histories.Quantities.{at_least_one}
-use Rattle.replays.specs.declared.start.Start.{Start}
-use Rattle.replays.specs.declared.start.Start.TheVariants.{Received, Opened}
-use Rattle.replays.specs.Starting.{told_by, told_first, start_of, first_day, TheFirstDayIsTold}
+use Rattle.spellings.specs.Starting.{told_by}
+use Rattle.spellings.specs.declared.start.Start.{Start}
+use Rattle.spellings.specs.declared.start.Start.TheVariants.{Received, Opened}
+use Rattle.histories.specs.Start.{told_first, start_of, IsStartBy}
+use Rattle.replays.specs.Starting.{TheFirstDayIsTold}
 
 -- ---- acts that tell nothing
 
@@ -178,7 +180,7 @@ pub first_day_told : TheFirstDayIsTold
 unfolding tables_of
 first_day_told first acts h kept = by_start (start_of acts) refl
   where
-    by_start : (s : Option Start) → start_of acts ≡ s → first_day (tables_of first acts) s ≡ Some first
+    by_start : (s : Option Start) → start_of acts ≡ s → IsStartBy first acts s first
     by_start None is = ap (λ day. Some day) (untold_day first acts is)
     by_start (Some (Received l n)) is = first_receipt first acts l n h is
     by_start (Some (Opened day)) is = absurd (kept day is)

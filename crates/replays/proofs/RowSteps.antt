@@ -14,10 +14,11 @@ use Rattle.commands.proofs.OneSpelling.{one_spelling}
 use Rattle.machine.specs.Acts.{Act}
 use Rattle.machine.specs.Once.{outcome, is_key_of, IsHistory, IsSoundRequest}
 use Rattle.store.specs.Connected.{Connected}
+use Rattle.histories.proofs.Acts.{earlier}
 use Rattle.replays.specs.Replaying.{cause, IsReplayed, IsRowOf, Spell, IsOfNoAct, IsOfRefused, IsRowReplayed, BreakOff, BreakUnspelled, BreakRefused, AreRowsReplayed}
 use Rattle.replays.specs.declared.fault.NotReplayed.{NotReplayed}
 use Rattle.replays.specs.declared.fault.NotReplayed.TheVariants as fault
-use Rattle.replays.proofs.Steps.{accepted_there, older}
+use Rattle.replays.proofs.Steps.{accepted_there}
 
 pub rows_more : (rows : List RepeatRow) (i : ℕ) (r : RepeatRow) → i < length rows → r ≡ get_or rows i r → reverse (take (i + 1) rows) ≡ r ∷ reverse (take i rows)
 rows_more rows i r low is =
@@ -62,7 +63,7 @@ spell_one first (row ∷ rows) (act ∷ acts) (other ∷ others) h j a b =
 -- a row that is of no act that goes on ends the whole
 ends_here : (first : ℤ) (row : RepeatRow) (rows newer : List RepeatRow) (so_far : List Act) → Spell rows so_far → IsHistory first so_far
     → ((act : Act) → IsRowOf row act → ¬ IsHistory first (act ∷ so_far)) → (acts : List Act) → Spell (newer ++ row ∷ rows) acts → ¬ IsHistory first acts
-ends_here first row rows newer so_far spelled h none acts all j = go parts.older parts.spell (older first parts.newer parts.older (subst (IsHistory first) parts.parts j))
+ends_here first row rows newer so_far spelled h none acts all j = go parts.older parts.spell (earlier first parts.newer parts.older (subst (IsHistory first) parts.parts j))
   where
     parts : SpellOlder (row ∷ rows) acts
     parts = spell_older newer (row ∷ rows) acts all

@@ -7,14 +7,18 @@ use Rattle.commands.specs.Sound.{is_sound}
 use Rattle.commands.specs.Spelling.{spelling}
 use Rattle.commands.specs.declared.command.Command.{Command}
 use Rattle.commands.specs.declared.rows.RepeatRow.{RepeatRow}
-use Rattle.commands.proofs.OneSpelling.{one_spelling}
+use Rattle.spellings.specs.Starting.{told_by, Tells, IsReadFrom}
+use Rattle.spellings.specs.declared.start.Start.{Start}
+use Rattle.spellings.proofs.Starting.{told_as}
 use Rattle.machine.specs.Acts.{Act, next_number}
 use Rattle.machine.specs.Once.{IsHistory}
-use Rattle.replays.specs.declared.start.Start.{Start}
-use Rattle.replays.specs.Spelled.{row_of, spelled_rows}
-use Rattle.replays.specs.Starting.{told_by, told_first, start_of, Tells, IsReadFrom, TellNothing, TellFirst, Tell}
+use Rattle.histories.specs.Books.{row_of}
+use Rattle.histories.specs.Start.{told_first, start_of}
+use Rattle.histories.proofs.Acts.{earlier}
+use Rattle.histories.proofs.Begun.{start_kept}
+use Rattle.replays.specs.Spelled.{spelled_rows}
+use Rattle.replays.specs.Starting.{TellNothing, TellFirst, Tell}
 use Rattle.replays.proofs.RowSteps.{rows_more, rows_parts}
-use Rattle.replays.proofs.Steps.{older}
 
 -- the older rows are those of the older acts
 record AreOlder (first : ℤ) (rows : List RepeatRow) (acts : List Act) : Type 0 where
@@ -31,11 +35,6 @@ are_older first (row ∷ newer) rows (act ∷ acts) e =
     let more = are_older first newer rows acts rest in
     record { newer = act ∷ more.newer; older = more.older; parts = ap (λ xs. act ∷ xs) {y = more.newer ++ more.older} more.parts; spelled = more.spelled }
 
--- what older acts tell stands
-told_older : (newer older : List Act) (s : Start) → start_of older ≡ Some s → start_of (newer ++ older) ≡ Some s
-told_older [] older s e = e
-told_older (act ∷ newer) older s e = let more = told_older newer older s e in rw more refl
-
 -- no act of these rows tells anything
 abbrev pub TellNone : List RepeatRow → Type 0
 TellNone rows = (first : ℤ) (acts : List Act) → IsHistory first acts → reverse rows ≡ spelled_rows first acts → start_of acts ≡ None
@@ -48,9 +47,7 @@ module _ (rows : List RepeatRow) (i : ℕ) (row : RepeatRow) (low : i < length r
   -- what a row tells is what any command does that it spells
   read_as : (told : Option (Option Start)) → IsReadFrom row told → (command : Command) → IsTrue (is_sound command) → row.spell ≡ spelling command → told ≡ Some (told_by row.act command)
   read_as None none command sound is = absurd (none command sound is)
-  read_as (Some told) one command sound is =
-      let same = one_spelling one.command command one.sound sound (sym one.spelled ∙ is) in
-      ap (λ t. Some t) (one.told ∙ ap (told_by row.act) same)
+  read_as (Some told) one command sound is = ap (λ t. Some t) (told_as row told one command sound is)
 
   -- the newest of the acts so far tells what was read
   newest : (first : ℤ) (acts : List Act) → IsHistory first acts → row ∷ reverse (take i rows) ≡ spelled_rows first acts → told ≡ Some (start_of acts)
@@ -71,7 +68,7 @@ module _ (rows : List RepeatRow) (i : ℕ) (row : RepeatRow) (low : i < length r
   so_far : (first : ℤ) (acts : List Act) → IsHistory first acts → reverse rows ≡ spelled_rows first acts → (s : AreOlder first (reverse (take (i + 1) rows)) acts) × (told ≡ Some (start_of s.older))
   so_far first acts h e =
       let parts = are_older first (reverse (drop (i + 1) rows)) (reverse (take (i + 1) rows)) acts (sym (rows_parts rows (i + 1)) ∙ e) in
-      (parts, newest first parts.older (older first parts.newer parts.older (subst (IsHistory first) parts.parts h)) (sym (rows_more rows i row low is) ∙ parts.spelled))
+      (parts, newest first parts.older (earlier first parts.newer parts.older (subst (IsHistory first) parts.parts h)) (sym (rows_more rows i row low is) ∙ parts.spelled))
 
   -- the first that tells it
   pub tell_here : (here : Option Start) → told ≡ Some here → is_some here ≡ true → Tell rows here
@@ -79,7 +76,7 @@ module _ (rows : List RepeatRow) (i : ℕ) (row : RepeatRow) (low : i < length r
   tell_here (Some s) it full first acts h e =
       let parts = so_far first acts h e in
       let tells : start_of parts.0.older ≡ Some s = same_Some (start_of parts.0.older) (Some s) (sym parts.1 ∙ it) in
-      sym (ap start_of parts.0.parts ∙ told_older parts.0.newer parts.0.older s tells)
+      sym (ap start_of parts.0.parts ∙ start_kept parts.0.newer parts.0.older s tells)
 
   -- a spelling that is none is of no history
   pub tell_ends : told ≡ None → Tell rows None

@@ -1,5 +1,5 @@
 -- One act that is done again, and then another.
-use Rattle.std.proofs.Common.{◌≡◌, ℕ, List, [], ◌∷◌, ◌++◌, ap, sym, subst, ◌∙◌}
+use Rattle.std.proofs.Common.{◌≡◌, ℕ, List, ◌∷◌, ap, sym, subst, ◌∙◌}
 use Rattle.std.specs.Prelude.{ℤ}
 use Rattle.commands.specs.declared.refusal.Refusal.{Refusal}
 use Rattle.machine.specs.Acts.{Act}
@@ -24,8 +24,3 @@ not_again first act acts text e h = let two : Repeated text ≡ Accepted (reply 
 
 pub not_refused : (first : ℤ) (act : Act) (acts : List Act) (why : Refusal) → Refused why ≡ outcome first acts act → ¬ IsHistory first (act ∷ acts)
 not_refused first act acts why e h = let two : Refused why ≡ Accepted (reply first act acts) = e ∙ accepted_there first act acts h.1 in cc
-
--- the older acts of a history are one
-pub older : (first : ℤ) (newer acts : List Act) → IsHistory first (newer ++ acts) → IsHistory first acts
-older first [] acts h = h
-older first (act ∷ newer) acts h = older first newer acts h.0

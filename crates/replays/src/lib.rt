@@ -14,4 +14,4 @@ pub use fault::NotReplayed;
 pub use order::by_act;
 pub use progress::Progress;
 pub use rows::replay_rows;
-pub use start::{Start, start_of};
+pub use start::start_of;

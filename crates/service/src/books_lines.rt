@@ -16,10 +16,10 @@ ghost use Rattle.service.specs.Printing.{IsSheetPrinted, LeavesSheet};
 
 use crate::goods_file::import_file;
 use crate::lot_texts::{print_card, print_notice};
-use crate::serve::serve_logged_if;
+use crate::serve::serve_kept_if;
 use books_schema::ready_connection::Orderly;
 use command_line::{Fault, FilesAt};
-use house::House;
+use house::{House, NoKeeper};
 use line_books::{AfterWork, NotBegun, open_books};
 use sqlite::{Alter, Connection};
 use std::alloc::Global;
@@ -204,7 +204,7 @@ fn serve_port<S: Alter + Drop, W: Write, L: Write>(
     ensures told { IsPortTold port (W.contents out.old) (W.contents out.new) result }
 {
     tell_port(port, out)?;
-    match serve_logged_if(rt, logged, listener, house, max, log) {
+    match serve_kept_if(rt, logged, listener, house, max, log, &mut NoKeeper) {
         Ok(()) => Ok(()),
         Err(_) => Err(Fault::Io),
     }

@@ -114,29 +114,6 @@ pub fn serve_kept_if<C: Clock, S: Alter + Drop, L: Write, K: Keeper<S>>(
     }
 }
 
-/// With a log or without, and nothing is kept.
-pub(crate) fn serve_logged_if<C: Clock, S: Alter + Drop, L: Write>(
-    clock: &C,
-    logged: bool,
-    listener: &TcpListener,
-    house: &mut House<S>,
-    max: u32,
-    log: &mut L,
-) -> Result<(), TextFault>
-    ensures clean { IsClean S.Store (books_of house.new) → IsClean S.Store (books_of house.old) }
-    ensures served { IsClean S.Store (books_of house.new)
-        → (first : ℤ) (acts : List Act) → IsHistory first acts → HoldsBooks S.Store first acts (books_of house.old)
-        → HasLogged S.Store first acts max (books_of house.old) (books_of house.new) logged result (L.contents log.old) (L.contents log.new) }
-    ensures quiet { logged ≡ false → log.new ≡ log.old }
-{
-    if logged {
-        serve_logged(clock, listener, house, max, log)
-    } else {
-        serve_on(clock, listener, house, max);
-        Ok(())
-    }
-}
-
 /// Waits for the next connection and answers it.
 fn serve_next<C: Clock, S: Alter + Drop, L: Write, K: Keeper<S>>(
     clock: &C,
@@ -183,7 +160,7 @@ fn serve_stream<C: Clock, S: Alter + Drop, L: Write, K: Keeper<S>>(
         start,
         seconds: ANSWERED_SECONDS,
     };
-    let served = house.serve_kept(&mut reader, &mut writer, log, keeper);
+    let served = house.serve_one_kept(&mut reader, &mut writer, log, keeper);
     end_answer(&mut reader, served)
 }
 

@@ -1,5 +1,5 @@
 -- What is known of the books, once it is read.
-use Rattle.std.proofs.Common.{◌≡◌, Result, Ok, Err, OnOk, IfOk, IsTrue, sym, subst, arith}
+use Rattle.std.proofs.Common.{◌≡◌, Result, Ok, Err, OnOk, OnErr, IfOk, IsTrue, sym, subst, arith}
 use Rattle.commands.specs.Tables.{Tables}
 use Rattle.commands.specs.declared.limits.TheConstants.{ITEMS_MAX, BINS_MAX}
 use Rattle.sqlite.specs.State.{State, HasCleanDisk}
@@ -7,13 +7,15 @@ use Rattle.table_words.specs.Steps.{IsReady}
 use Rattle.table_words.specs.Typed.{tables_in}
 use Rattle.table_words.specs.declared.error.TableFault.{TableFault}
 use Rattle.row_rules.specs.declared.slice.Put.{Put}
-use Rattle.known_reads.specs.Reading.{IsRead}
+use Rattle.known_reads.specs.Reading.{IsRead, Knowing}
 use Rattle.slices.specs.Bounding.{AreBounds}
+use Rattle.slices.specs.Following.{KnowsFollowed, KnowsNoneFollowed}
 use Rattle.slices.specs.Slicing.{IsFirstKnown, HoldsOf, Knows}
+use Rattle.slices.specs.declared.followed.Followed.{Followed}
 use Rattle.slices.specs.declared.knowing.Bounds.{Bounds}
 use Rattle.slices.specs.declared.knowing.Known.{Known}
 use Rattle.slices.proofs.Covering.{covers_read, covers_urgent_read}
-use Rattle.slices.proofs.StillKnown.{no_rows_known}
+use Rattle.slices.proofs.StillKnown.{none_followed, no_rows_known}
 
 -- a number that is not below the limit tells nothing
 none_bound : (t : Tables) (b : Bounds) → b ≡ record { items = ITEMS_MAX; bins = BINS_MAX } → AreBounds b t
@@ -31,6 +33,18 @@ first_read old new (Ok known) one clean ready up =
     }
 first_read old new (Err e) one clean ready up = tt
 
-pub put_read : {X : Type 0} (puts : Put) (known : Known) (old new : State) (r : Result X TableFault) → IsRead (λ t _. Knows puts t known) old new r → HasCleanDisk new → IsReady old.now → IsTrue old.is_open → OnOk r (Knows puts (tables_in old.now.trees) known)
-put_read puts known old new (Ok x) one clean ready up = (one.answers clean ready up).1
-put_read puts known old new (Err e) one clean ready up = tt
+-- with what a change puts; after a read that failed nothing is known of the rows that follow what is written
+abbrev IsAdded : {X : Type 0} → Put → (was added : Known) → (old last : State) → Result X TableFault → Type 0
+IsAdded puts was added = IsRead (Knowing (λ t. KnowsFollowed t was.rows.followed) (λ t. KnowsFollowed t added.rows.followed) (λ t _. Knows puts t added))
+
+pub put_read : {X : Type 0} (puts : Put) (was added new : Known) (old last : State) (r : Result X TableFault) → IsAdded puts was added old last r → new ≡ record added { rows = record added.rows { followed = new.rows.followed } }
+    → HasCleanDisk last → IsReady old.now → IsTrue old.is_open → KnowsFollowed (tables_in old.now.trees) was.rows.followed → OnOk r (Knows puts (tables_in old.now.trees) new)
+put_read puts was added new old last (Ok x) one same clean ready up known =
+    let told = (one.answers clean ready up).1 known in
+    subst (λ (k : Known). Knows puts (tables_in old.now.trees) k) (sym same) (record { lines = told.0.lines; urgent = told.0.urgent })
+put_read puts was added new old last (Err e) one same clean ready up known = tt
+
+pub followed_read : {X : Type 0} (puts : Put) (was added new : Known) (old last : State) (r : Result X TableFault) → IsAdded puts was added old last r → OnOk r (new.rows.followed ≡ added.rows.followed) → OnErr r (KnowsNoneFollowed new.rows.followed)
+    → HasCleanDisk last → IsReady old.now → IsTrue old.is_open → KnowsFollowed (tables_in old.now.trees) was.rows.followed → KnowsFollowed (tables_in old.now.trees) new.rows.followed
+followed_read puts was added new old last (Ok x) one read unread clean ready up known = subst (λ (f : Followed). KnowsFollowed (tables_in old.now.trees) f) (sym read) ((one.answers clean ready up).1 known).1
+followed_read puts was added new old last (Err e) one read unread clean ready up known = none_followed (tables_in old.now.trees) new.rows.followed unread

@@ -17,6 +17,7 @@ use Rattle.order_tables.specs.Lines.{AreLinesOfOrder, AreLineOf}
 use Rattle.goods_tables.specs.Stock.{AreStockOf}
 use Rattle.order_tables.specs.Orders.{AreOrdersOf}
 use Rattle.order_tables.specs.Staged.{AreStagedOfItem}
+use Rattle.order_tables.specs.Urgents.{AreUrgentsOf}
 use Rattle.known_rows.proofs.Learned.{remembers_left, remembers_none}
 use Rattle.slices.specs.Following.{KnowsMeta, KnowsFollowed, KnowsNoneFollowed}
 use Rattle.slices.specs.Remembering.{KnowsRows, KnowsNoRows, ForgetsPut}
@@ -24,8 +25,13 @@ use Rattle.slices.specs.declared.followed.Followed.{Followed}
 use Rattle.slices.specs.declared.rows_known.RowsKnown.{RowsKnown}
 
 -- of rows that follow what is written
-none_followed : (t : Tables) (known : Followed) → KnowsNoneFollowed known → KnowsFollowed t known
+pub none_followed : (t : Tables) (known : Followed) → KnowsNoneFollowed known → KnowsFollowed t known
 none_followed t known none = record {
+  lots = remembers_none lot_key_cmp turned_lot (λ by found. AreLotOf by t found) known.lots.rows none.lots;
+  orders = remembers_none (slice_cmp nat_cmp) reverse (λ by found. AreOrdersOf by t found) known.orders.rows none.orders;
+  urgents = remembers_none (slice_cmp nat_cmp) reverse (λ by found. AreUrgentsOf by t found) known.urgents.rows none.urgents;
+  lines = remembers_none (slice_cmp nat_cmp) reverse (λ by found. AreLinesOfOrder by t found) known.lines.rows none.lines;
+  lines_at = remembers_none line_key_cmp turned_line (λ by found. AreLineOf by t found) known.lines_at.rows none.lines_at;
   stock = remembers_none (slice_cmp nat_cmp) reverse (λ by found. AreStockOf by t found) known.stock.rows none.stock;
   staged = remembers_none (slice_cmp nat_cmp) reverse (λ by found. AreStagedOfItem by t found) known.staged.rows none.staged;
   meta = subst (λ (x : Option MetaRow). KnowsMeta t x) (sym none.meta) tt;
@@ -36,23 +42,19 @@ no_rows_known t known none = record {
   items = remembers_none (slice_cmp nat_cmp) reverse (λ by found. AreItemsOf by t found) known.items.rows none.items;
   least = remembers_none (slice_cmp nat_cmp) reverse (λ by found. AreLeastOf by t found) known.least.rows none.least;
   bins = remembers_none (slice_cmp nat_cmp) reverse (λ by found. AreBinsOf by t found) known.bins.rows none.bins;
-  lots = remembers_none lot_key_cmp turned_lot (λ by found. AreLotOf by t found) known.lots.rows none.lots;
   recalls = remembers_none (slice_cmp nat_cmp) reverse (λ by found. AreRecallsOf by t found) known.recalls.rows none.recalls;
-  orders = remembers_none (slice_cmp nat_cmp) reverse (λ by found. AreOrdersOf by t found) known.orders.rows none.orders;
-  lines = remembers_none (slice_cmp nat_cmp) reverse (λ by found. AreLinesOfOrder by t found) known.lines.rows none.lines;
-  lines_at = remembers_none line_key_cmp turned_line (λ by found. AreLineOf by t found) known.lines_at.rows none.lines_at;
   followed = none_followed t known.followed none.followed;
 }
 
-pub rows_stay_known : (puts : Put) (t : Tables) (old new : RowsKnown) → ForgetsPut puts old new → KnowsRows t old → KnowsRows t new
-rows_stay_known puts t old new forgets known = record {
+pub rows_stay_known : (puts : Put) (t : Tables) (old new : RowsKnown) → ForgetsPut puts old new → KnowsFollowed t new.followed → KnowsRows t old → KnowsRows t new
+rows_stay_known puts t old new forgets followed known = record {
   items = remembers_left (slice_cmp nat_cmp) reverse (λ by found. AreItemsOf by t found) (λ r. reverse r.gtin) puts.items old.items.rows new.items.rows forgets.items known.items;
   least = remembers_left (slice_cmp nat_cmp) reverse (λ by found. AreLeastOf by t found) (λ r. reverse r.gtin) puts.least old.least.rows new.least.rows forgets.least known.least;
   bins = remembers_left (slice_cmp nat_cmp) reverse (λ by found. AreBinsOf by t found) (λ r. reverse r.name) puts.bins old.bins.rows new.bins.rows forgets.bins known.bins;
-  lots = remembers_left lot_key_cmp turned_lot (λ by found. AreLotOf by t found) (λ r. turned_lot r.lot) puts.lots old.lots.rows new.lots.rows forgets.lots known.lots;
   recalls = remembers_left (slice_cmp nat_cmp) reverse (λ by found. AreRecallsOf by t found) (λ r. reverse r.lot.gtin) puts.recalls old.recalls.rows new.recalls.rows forgets.recalls known.recalls;
-  orders = remembers_left (slice_cmp nat_cmp) reverse (λ by found. AreOrdersOf by t found) (λ r. reverse r.order) puts.orders old.orders.rows new.orders.rows forgets.orders known.orders;
-  lines = remembers_left (slice_cmp nat_cmp) reverse (λ by found. AreLinesOfOrder by t found) (λ r. reverse r.order) puts.lines old.lines.rows new.lines.rows forgets.lines known.lines;
-  lines_at = remembers_left line_key_cmp turned_line (λ by found. AreLineOf by t found) (λ r. turned_line (r.order, r.gtin)) puts.lines old.lines_at.rows new.lines_at.rows forgets.lines_at known.lines_at;
-  followed = subst (λ (x : Followed). KnowsFollowed t x) (sym forgets.followed) known.followed;
+  followed = followed;
 }
+
+-- whatever is known of what follows what is written
+pub forgets_beside : (puts : Put) (old new : RowsKnown) (followed : Followed) → ForgetsPut puts old new → ForgetsPut puts old (record new { followed = followed })
+forgets_beside puts old new followed forgets = record { items = forgets.items; least = forgets.least; bins = forgets.bins; recalls = forgets.recalls }

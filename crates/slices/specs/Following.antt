@@ -3,19 +3,51 @@ use Rattle.std.specs.Prelude.{◌≡◌, ℕ, List, reverse, Option, Some, None,
 use Rattle.std.specs.Ordering.{nat_cmp}
 use Rattle.std.specs.Cmp.Lexicographic.{slice_cmp}
 use Rattle.commands.specs.Tables.{Tables}
+use Rattle.commands.specs.declared.rows.LineRow.{LineRow}
+use Rattle.commands.specs.declared.rows.LotRow.{LotRow}
 use Rattle.commands.specs.declared.rows.MetaRow.{MetaRow}
+use Rattle.commands.specs.declared.rows.OrderRow.{OrderRow}
 use Rattle.commands.specs.declared.rows.StagedRow.{StagedRow}
 use Rattle.commands.specs.declared.rows.StockRow.{StockRow}
+use Rattle.commands.specs.declared.rows.UrgentRow.{UrgentRow}
+use Rattle.values.specs.declared.lot_key.LotKey.{LotKey}
+use Rattle.slice_lists.specs.LotOrder.{lot_key as turned_lot, lot_key_cmp}
+use Rattle.slice_lists.specs.declared.line_keys.LineKey.{LineKey}
+use Rattle.slice_lists.specs.LineOrder.{turned_line, line_key_cmp}
 use Rattle.row_rules.specs.declared.slice.Change.{Change}
 use Rattle.row_rules.specs.declared.slice.Dropped.{Dropped}
 use Rattle.row_rules.specs.declared.slice.Put.{Put}
+use Rattle.goods_tables.specs.Lots.{AreLotOf}
 use Rattle.goods_tables.specs.Stock.{AreStockOf}
+use Rattle.order_tables.specs.Lines.{AreLinesOfOrder, AreLineOf}
+use Rattle.order_tables.specs.Orders.{AreOrdersOf}
 use Rattle.order_tables.specs.Staged.{AreStagedOfItem}
-use Rattle.known_rows.specs.Keyed.{same_stock_row, same_staged_row}
+use Rattle.order_tables.specs.Urgents.{AreUrgentsOf}
+use Rattle.known_rows.specs.Keyed.{same_lot_row, same_stock_row, same_order_row, same_urgent_row, same_line_row, same_staged_row}
 use Rattle.known_rows.specs.KnownRows.{RowMap, KnowsNone, ChangesBy, Remembers, with_put, without_row}
 use Rattle.slices.specs.declared.followed.Followed.{Followed}
 
 -- What is known of one table is so
+
+-- lots by their keys
+abbrev pub KnowsLots : Tables → RowMap LotKey LotRow → Type 0
+KnowsLots t m = Remembers lot_key_cmp turned_lot (λ by found. AreLotOf by t found) m
+
+-- orders by their names
+abbrev pub KnowsOrders : Tables → RowMap (List ℕ) OrderRow → Type 0
+KnowsOrders t m = Remembers (slice_cmp nat_cmp) reverse (λ by found. AreOrdersOf by t found) m
+
+-- rows of urgent orders by the names of these
+abbrev pub KnowsUrgents : Tables → RowMap (List ℕ) UrgentRow → Type 0
+KnowsUrgents t m = Remembers (slice_cmp nat_cmp) reverse (λ by found. AreUrgentsOf by t found) m
+
+-- all lines of an order, by its name
+abbrev pub KnowsLines : Tables → RowMap (List ℕ) LineRow → Type 0
+KnowsLines t m = Remembers (slice_cmp nat_cmp) reverse (λ by found. AreLinesOfOrder by t found) m
+
+-- lines by their orders and items
+abbrev pub KnowsLinesAt : Tables → RowMap LineKey LineRow → Type 0
+KnowsLinesAt t m = Remembers line_key_cmp turned_line (λ by found. AreLineOf by t found) m
 
 -- stock by the GTINs of its items
 abbrev pub KnowsStock : Tables → RowMap (List ℕ) StockRow → Type 0
@@ -31,17 +63,42 @@ KnowsMeta t known = IfSome known (λ row. t.meta ≡ Some row)
 
 -- so of all
 pub record KnowsFollowed (t : Tables) (known : Followed) : Type 0 where
+  pub lots : KnowsLots t known.lots.rows
+  pub orders : KnowsOrders t known.orders.rows
+  pub urgents : KnowsUrgents t known.urgents.rows
+  pub lines : KnowsLines t known.lines.rows
+  pub lines_at : KnowsLinesAt t known.lines_at.rows
   pub stock : KnowsStock t known.stock.rows
   pub staged : KnowsStaged t known.staged.rows
   pub meta : KnowsMeta t known.meta
 
 -- nothing is known
 pub record KnowsNoneFollowed (known : Followed) : Type 0 where
+  pub lots : KnowsNone lot_key_cmp known.lots.rows
+  pub orders : KnowsNone (slice_cmp nat_cmp) known.orders.rows
+  pub urgents : KnowsNone (slice_cmp nat_cmp) known.urgents.rows
+  pub lines : KnowsNone (slice_cmp nat_cmp) known.lines.rows
+  pub lines_at : KnowsNone line_key_cmp known.lines_at.rows
   pub stock : KnowsNone (slice_cmp nat_cmp) known.stock.rows
   pub staged : KnowsNone (slice_cmp nat_cmp) known.staged.rows
   pub meta : known.meta ≡ None
 
 -- What is known, with the rows of a change
+
+abbrev pub LotsPut : Put → RowMap LotKey LotRow → RowMap LotKey LotRow → Type 0
+LotsPut puts old new = ChangesBy lot_key_cmp (λ (r : LotRow). turned_lot r.lot) (with_put same_lot_row) puts.lots old new
+
+abbrev pub OrdersPut : Put → RowMap (List ℕ) OrderRow → RowMap (List ℕ) OrderRow → Type 0
+OrdersPut puts old new = ChangesBy (slice_cmp nat_cmp) (λ (r : OrderRow). reverse r.order) (with_put same_order_row) puts.orders old new
+
+abbrev pub UrgentsPut : Put → RowMap (List ℕ) UrgentRow → RowMap (List ℕ) UrgentRow → Type 0
+UrgentsPut puts old new = ChangesBy (slice_cmp nat_cmp) (λ (r : UrgentRow). reverse r.order) (with_put same_urgent_row) puts.urgents old new
+
+abbrev pub LinesPut : Put → RowMap (List ℕ) LineRow → RowMap (List ℕ) LineRow → Type 0
+LinesPut puts old new = ChangesBy (slice_cmp nat_cmp) (λ (r : LineRow). reverse r.order) (with_put same_line_row) puts.lines old new
+
+abbrev pub LinesAtPut : Put → RowMap LineKey LineRow → RowMap LineKey LineRow → Type 0
+LinesAtPut puts old new = ChangesBy line_key_cmp (λ (r : LineRow). turned_line (r.order, r.gtin)) (with_put same_line_row) puts.lines old new
 
 abbrev pub StockDropped : Dropped → RowMap (List ℕ) StockRow → RowMap (List ℕ) StockRow → Type 0
 StockDropped drops old new = ChangesBy (slice_cmp nat_cmp) (λ (r : StockRow). reverse r.lot.gtin) (without_row same_stock_row) drops.stock old new
@@ -67,6 +124,11 @@ StagedFollows puts drops (Some order) old new = KnowsNone (slice_cmp nat_cmp) ne
 StagedFollows puts drops None old new = StagedChanges puts drops old new
 
 pub record Follows (c : Change) (old new : Followed) : Type 0 where
+  pub lots : LotsPut c.put old.lots.rows new.lots.rows
+  pub orders : OrdersPut c.put old.orders.rows new.orders.rows
+  pub urgents : UrgentsPut c.put old.urgents.rows new.urgents.rows
+  pub lines : LinesPut c.put old.lines.rows new.lines.rows
+  pub lines_at : LinesAtPut c.put old.lines_at.rows new.lines_at.rows
   pub stock : StockFollows c.put c.dropped old.stock.rows new.stock.rows
   pub staged : StagedFollows c.put c.dropped c.dropped.stage old.staged.rows new.staged.rows
   pub meta : new.meta ≡ Some c.meta

@@ -3,15 +3,26 @@
 ghost use Rattle.std.specs.Prelude.{◌≡◌, Some};
 ghost use Rattle.slices.specs.Following.{KnowsNoneFollowed, StockFollows, StagedChanges, StagedFollows, Follows};
 
-use commands::{MetaRow, StagedRow, StockRow};
+use commands::{LineRow, LotRow, MetaRow, OrderRow, StagedRow, StockRow, UrgentRow};
 use known_rows::KnownRows;
 use rules::{Change, Dropped, Put};
+use slice_lists::LineKey;
 use std::alloc::Global;
-use values::{Gtin, TextKey};
+use values::{Gtin, LotId, LotKey, Name, TextKey};
 
 /// Rows that are known, and that follow what is written.
 #[derive(Drop)]
 pub struct Followed {
+    /// Lots by their keys.
+    pub lots: KnownRows<LotId, LotKey, LotRow>,
+    /// Orders by their names.
+    pub orders: KnownRows<Name, TextKey, OrderRow>,
+    /// The rows of urgent orders, by the names of these.
+    pub urgents: KnownRows<Name, TextKey, UrgentRow>,
+    /// All lines of an order, by its name.
+    pub lines: KnownRows<Name, TextKey, LineRow>,
+    /// Lines by their orders and items.
+    pub lines_at: KnownRows<(Name, Gtin), LineKey, LineRow>,
     /// Stock by the GTINs of its items.
     pub stock: KnownRows<Gtin, TextKey, StockRow>,
     /// What is staged, by the GTINs of its items.
@@ -54,6 +65,11 @@ impl Followed {
         ensures { KnowsNoneFollowed result }
     {
         Followed {
+            lots: KnownRows::new(alloc),
+            orders: KnownRows::new(alloc),
+            urgents: KnownRows::new(alloc),
+            lines: KnownRows::new(alloc),
+            lines_at: KnownRows::new(alloc),
             stock: KnownRows::new(alloc),
             staged: KnownRows::new(alloc),
             meta: None,
@@ -71,6 +87,11 @@ impl Followed {
     pub fn follow(&mut self, change: &Change)
         ensures { Follows change.now self.old self.new }
     {
+        self.lots.put_all(change.put.lots.as_slice());
+        self.orders.put_all(change.put.orders.as_slice());
+        self.urgents.put_all(change.put.urgents.as_slice());
+        self.lines.put_all(change.put.lines.as_slice());
+        self.lines_at.put_all(change.put.lines.as_slice());
         follow_stock(&mut self.stock, &change.put, &change.dropped);
         follow_staged(&mut self.staged, &change.put, &change.dropped);
         self.meta = Some(change.meta);

@@ -113,7 +113,7 @@ pub fn seek_lot<S: Alter>(
     ensures same_reference { tx.new.conn.ghost_name ≡ tx.old.conn.ghost_name }
     ensures read { IsRead (Learning rows.old rows.new (λ t found. AreLotOf lot.now t found.items)) (state S.Store tx.old.conn.now) (state S.Store tx.new.conn.now) result }
 {
-    seek_known::<Lots, LotId, LotKey, S>(alloc, tx, &mut rows.lots, lot)
+    seek_known::<Lots, LotId, LotKey, S>(alloc, tx, &mut rows.followed.lots, lot)
 }
 
 /// The rows of lots, one after another.
@@ -126,7 +126,7 @@ pub fn seek_lots<S: Alter>(
     ensures same_reference { tx.new.conn.ghost_name ≡ tx.old.conn.ghost_name }
     ensures read { IsRead (Learning rows.old rows.new (λ t found. AreLotsOf lots.now t found.items)) (state S.Store tx.old.conn.now) (state S.Store tx.new.conn.now) result }
 {
-    seek_all_known::<Lots, LotId, LotKey, S>(alloc, tx, &mut rows.lots, lots)
+    seek_all_known::<Lots, LotId, LotKey, S>(alloc, tx, &mut rows.followed.lots, lots)
 }
 
 /// The recalls of an item.

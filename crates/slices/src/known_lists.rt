@@ -1,4 +1,4 @@
-//! Orders and lines that are sought, from what is known of them, and from the tables where nothing is.
+//! Orders, lines and rows of urgent orders that are sought, from what is known of them, and from the tables where nothing is.
 
 ghost use Rattle.std.specs.Prelude.{◌≡◌};
 ghost use Rattle.sqlite.specs.Held.{state};
@@ -6,13 +6,14 @@ ghost use Rattle.order_tables.specs.Lines.{AreLineOf};
 ghost use Rattle.order_tables.specs.Orders.{AreOrdersOf};
 ghost use Rattle.known_reads.specs.Reading.{IsRead};
 ghost use Rattle.slices.specs.Remembering.{Learning};
-ghost use Rattle.slices.specs.Slicing.{AreAllLines, AreOrders};
+ghost use Rattle.slices.specs.Slicing.{AreAllLines, AreOrders, AreUrgents};
 
 use crate::rows_known::RowsKnown;
-use commands::{LineRow, OrderRow};
+use commands::{LineRow, OrderRow, UrgentRow};
 use known_reads::{seek_all_known, seek_known};
 use order_tables::lines::Lines;
 use order_tables::orders::Orders;
+use order_tables::urgents::Urgents;
 use slice_lists::LineKey;
 use sqlite::{Alter, Transaction};
 use std::alloc::Global;
@@ -29,7 +30,7 @@ pub fn seek_order<S: Alter>(
     ensures same_reference { tx.new.conn.ghost_name ≡ tx.old.conn.ghost_name }
     ensures read { IsRead (Learning rows.old rows.new (λ t found. AreOrdersOf order.now t found.items)) (state S.Store tx.old.conn.now) (state S.Store tx.new.conn.now) result }
 {
-    seek_known::<Orders, Name, TextKey, S>(alloc, tx, &mut rows.orders, order)
+    seek_known::<Orders, Name, TextKey, S>(alloc, tx, &mut rows.followed.orders, order)
 }
 
 /// The rows of orders, one after another.
@@ -42,7 +43,7 @@ pub fn seek_orders<S: Alter>(
     ensures same_reference { tx.new.conn.ghost_name ≡ tx.old.conn.ghost_name }
     ensures read { IsRead (Learning rows.old rows.new (λ t found. AreOrders orders.now t found.items)) (state S.Store tx.old.conn.now) (state S.Store tx.new.conn.now) result }
 {
-    seek_all_known::<Orders, Name, TextKey, S>(alloc, tx, &mut rows.orders, orders)
+    seek_all_known::<Orders, Name, TextKey, S>(alloc, tx, &mut rows.followed.orders, orders)
 }
 
 /// All lines of orders, one order after another.
@@ -55,7 +56,7 @@ pub fn seek_lines<S: Alter>(
     ensures same_reference { tx.new.conn.ghost_name ≡ tx.old.conn.ghost_name }
     ensures read { IsRead (Learning rows.old rows.new (λ t found. AreAllLines orders.now t found.items)) (state S.Store tx.old.conn.now) (state S.Store tx.new.conn.now) result }
 {
-    seek_all_known::<Lines, Name, TextKey, S>(alloc, tx, &mut rows.lines, orders)
+    seek_all_known::<Lines, Name, TextKey, S>(alloc, tx, &mut rows.followed.lines, orders)
 }
 
 /// The line of an order for an item, where there is one.
@@ -68,5 +69,18 @@ pub fn seek_line<S: Alter>(
     ensures same_reference { tx.new.conn.ghost_name ≡ tx.old.conn.ghost_name }
     ensures read { IsRead (Learning rows.old rows.new (λ t found. AreLineOf line.now t found.items)) (state S.Store tx.old.conn.now) (state S.Store tx.new.conn.now) result }
 {
-    seek_known::<Lines, (Name, Gtin), LineKey, S>(alloc, tx, &mut rows.lines_at, line)
+    seek_known::<Lines, (Name, Gtin), LineKey, S>(alloc, tx, &mut rows.followed.lines_at, line)
+}
+
+/// The rows of the urgent ones among these orders.
+pub fn seek_urgents<S: Alter>(
+    alloc: Global,
+    tx: &mut Transaction<'_, S>,
+    rows: &mut RowsKnown,
+    orders: &[Name],
+) -> Result<Vec<UrgentRow>, TableFault>
+    ensures same_reference { tx.new.conn.ghost_name ≡ tx.old.conn.ghost_name }
+    ensures read { IsRead (Learning rows.old rows.new (λ t found. AreUrgents orders.now t found.items)) (state S.Store tx.old.conn.now) (state S.Store tx.new.conn.now) result }
+{
+    seek_all_known::<Urgents, Name, TextKey, S>(alloc, tx, &mut rows.followed.urgents, orders)
 }

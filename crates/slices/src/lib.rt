@@ -4,11 +4,12 @@
 mod day_items;
 mod followed;
 mod knowing;
+mod known_change;
 mod known_followed;
 mod known_goods;
-mod known_lines;
 mod known_lists;
 mod known_orders;
+mod known_read;
 mod one_table;
 mod order_slices;
 mod picks;
@@ -25,8 +26,7 @@ pub use known_followed::{known_meta, seek_staged, seek_stock, seek_stock_of, see
 pub use known_goods::{
     seek_bins, seek_item, seek_least, seek_least_of, seek_lot, seek_lots, seek_recalls_of,
 };
-pub use known_lines::{first_known, know_put};
-pub use known_lists::{seek_lines, seek_order};
+pub use known_lists::{seek_lines, seek_order, seek_urgents};
 pub use known_orders::read_known_orders;
 pub use one_table::{line_row, meta_row};
 pub use order_slices::add_line;

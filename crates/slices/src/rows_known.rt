@@ -1,14 +1,14 @@
 //! The rows of the tables that are known by what they were sought by.
 
+ghost use Rattle.std.specs.Prelude.{◌≡◌};
 ghost use Rattle.slices.specs.Remembering.{KnowsNoRows, ForgetsPut};
 
 use crate::followed::Followed;
-use commands::{BinRow, ItemRow, LeastRow, LineRow, LotRow, OrderRow, RecallRow};
+use commands::{BinRow, ItemRow, LeastRow, RecallRow};
 use known_rows::KnownRows;
 use rules::Put;
-use slice_lists::LineKey;
 use std::alloc::Global;
-use values::{Gtin, LotId, LotKey, Name, TextKey};
+use values::{Gtin, Name, TextKey};
 
 /// The rows that are known.
 #[derive(Drop)]
@@ -19,16 +19,8 @@ pub struct RowsKnown {
     pub least: KnownRows<Gtin, TextKey, LeastRow>,
     /// Bins by their names.
     pub bins: KnownRows<Name, TextKey, BinRow>,
-    /// Lots by their keys.
-    pub lots: KnownRows<LotId, LotKey, LotRow>,
     /// Recalls by the GTINs of their items.
     pub recalls: KnownRows<Gtin, TextKey, RecallRow>,
-    /// Orders by their names.
-    pub orders: KnownRows<Name, TextKey, OrderRow>,
-    /// All lines of an order, by its name.
-    pub lines: KnownRows<Name, TextKey, LineRow>,
-    /// Lines by their orders and items.
-    pub lines_at: KnownRows<(Name, Gtin), LineKey, LineRow>,
     /// Those that follow what is written.
     pub followed: Followed,
 }
@@ -42,26 +34,19 @@ impl RowsKnown {
             items: KnownRows::new(alloc),
             least: KnownRows::new(alloc),
             bins: KnownRows::new(alloc),
-            lots: KnownRows::new(alloc),
             recalls: KnownRows::new(alloc),
-            orders: KnownRows::new(alloc),
-            lines: KnownRows::new(alloc),
-            lines_at: KnownRows::new(alloc),
             followed: Followed::new(alloc),
         }
     }
 
     /// Forgets what is sought with one of the rows that a change puts, but for what follows what is written. It takes no memory.
     pub fn forget_put(&mut self, put: &Put)
-        ensures { ForgetsPut put.now self.old self.new }
+        ensures forgets { ForgetsPut put.now self.old self.new }
+        ensures followed { self.new.followed ≡ self.old.followed }
     {
         self.items.forget_all(put.items.as_slice());
         self.least.forget_all(put.least.as_slice());
         self.bins.forget_all(put.bins.as_slice());
-        self.lots.forget_all(put.lots.as_slice());
         self.recalls.forget_all(put.recalls.as_slice());
-        self.orders.forget_all(put.orders.as_slice());
-        self.lines.forget_all(put.lines.as_slice());
-        self.lines_at.forget_all(put.lines.as_slice());
     }
 }

@@ -182,7 +182,7 @@ fn read_ordered<S: Alter>(
         named.as_slice(),
         gtins,
     )?;
-    let urgents = read_urgents(alloc, tx, &known.urgent, gtins, orders.as_slice())?;
+    let urgents = read_urgents(alloc, tx, &known.urgent, rows, gtins, orders.as_slice())?;
     Ok(Ordered {
         orders,
         urgents,

@@ -3,12 +3,13 @@
 ghost use Rattle.std.specs.Prelude.{◌≡◌, IfOk};
 ghost use Rattle.sqlite.specs.Held.{state};
 ghost use Rattle.known_reads.specs.Reading.{IsRead};
+ghost use Rattle.slices.specs.Remembering.{Learning};
 ghost use Rattle.slices.specs.Slicing.{names_at, AreUrgentsFor};
 
-use crate::sought_rows::seek_all;
+use crate::known_lists::seek_urgents;
+use crate::rows_known::RowsKnown;
 use commands::{OrderRow, UrgentRow};
 use open_orders::OpenLines;
-use order_tables::urgents::Urgents;
 use slice_lists::urgent_rows::names_among;
 use sqlite::{Alter, Transaction};
 use std::alloc::{AllocError, Global};
@@ -31,13 +32,14 @@ pub fn read_urgents<S: Alter>(
     alloc: Global,
     tx: &mut Transaction<'_, S>,
     known: &OpenLines,
+    rows: &mut RowsKnown,
     gtins: &[Gtin],
     orders: &[OrderRow],
 ) -> Result<Vec<UrgentRow>, TableFault>
     ensures same_reference { tx.new.conn.ghost_name ≡ tx.old.conn.ghost_name }
-    ensures read { IsRead (λ t rows. AreUrgentsFor known.now gtins.now orders.now t rows.items) (state S.Store tx.old.conn.now) (state S.Store tx.new.conn.now) result }
+    ensures read { IsRead (Learning rows.old rows.new (λ t found. AreUrgentsFor known.now gtins.now orders.now t found.items)) (state S.Store tx.old.conn.now) (state S.Store tx.new.conn.now) result }
 {
     let may_be = names_with(alloc, known, gtins)?;
     let names = names_among(alloc, may_be.as_slice(), orders)?;
-    seek_all::<Urgents, Name, S>(alloc, tx, names.as_slice())
+    seek_urgents(alloc, tx, rows, names.as_slice())
 }

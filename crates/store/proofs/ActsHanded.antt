@@ -1,9 +1,7 @@
 -- The rows of `repeats` in the books of a history.
-use Rattle.std.proofs.Common.{◌≡◌, ℕ, Bool, List, [], ◌∷◌, find, filter, inl, inr, refl, ap, ◌∙◌, Some}
+use Rattle.std.proofs.Common.{◌≡◌, ℕ, List, find, refl, ap, ◌∙◌, Some}
 use Rattle.std.specs.Prelude.{ℤ}
 use Rattle.std.specs.List.{AllByRecursion}
-use Rattle.std.proofs.lemmas.Bool.{cases_Bool}
-use Rattle.sqlite.specs.Order.{Row}
 use Rattle.values.specs.Values.{same_text}
 use Rattle.commands.specs.declared.rows.RepeatRow.{RepeatRow}
 use Rattle.sqlite.specs.State.{State}
@@ -12,6 +10,7 @@ use Rattle.machine.specs.Tables.{Tables, tables_of, repeat_row}
 use Rattle.table_words.specs.Cells.{typed}
 use Rattle.table_words.specs.Typed.{tables_in}
 use Rattle.table_words.proofs.KeyLemmas.{itself_bytes, same_bytes}
+use Rattle.table_words.proofs.CellLemmas.{typed_some}
 use Rattle.history_tables.specs.Repeats.{repeats, repeats_laws}
 use Rattle.slices.specs.Books.{IsBooksOf}
 use Rattle.whole_tables.specs.declared.halves.Half.TheVariants.{Upper}
@@ -19,24 +18,6 @@ use Rattle.whole_tables.specs.Halves.{is_in, half_of}
 use Rattle.whole_tables.specs.Whole.{AreAll, rows_of, typed_rows_of}
 use Rattle.whole_tables.proofs.Handing.{typed_are_all}
 use Rattle.whole_tables.proofs.Owned.{owned}
-
--- what holds of all typed rows holds of those among some of the rows
-typed_some : {X : Type 0} (P : X → Type 0) (is : Row → Bool) (read : Row → X) (part : Row → Bool) (rows : List Row) → AllByRecursion P (typed is read rows) → AllByRecursion P (typed is read (filter part rows))
-typed_some P is read part [] all = tt
-typed_some P is read part (r ∷ rows) all = elim (cases_Bool (is r)) [
-  | inl typed_one ↦
-      let both = rw typed_one at all in
-      elim (cases_Bool (part r)) [
-        | inl within ↦ rw (within, typed_one) (both.0, typed_some P is read part rows both.1)
-        | inr without ↦ rw without (typed_some P is read part rows both.1)
-      ]
-  | inr untyped ↦
-      let others = rw untyped at all in
-      elim (cases_Bool (part r)) [
-        | inl within ↦ rw (within, untyped) (typed_some P is read part rows others)
-        | inr without ↦ rw without (typed_some P is read part rows others)
-      ]
-]
 
 module _ (first : ℤ) (acts : List Act) (s : State) (books : IsBooksOf first acts s.now) where
   abbrev pub act_rows : List RepeatRow

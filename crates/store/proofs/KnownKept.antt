@@ -20,7 +20,7 @@ use Rattle.changes.specs.Written.{change_written}
 use Rattle.open_orders.specs.OpenLines.{Keeps}
 use Rattle.slices.specs.Bounding.{IsRaised}
 use Rattle.slices.specs.Remembering.{ForgetsPut}
-use Rattle.slices.specs.Following.{Follows}
+use Rattle.slices.specs.Following.{KnowsFollowed, Follows}
 use Rattle.slices.specs.Slicing.{HoldsOf, HoldsBeside, Knows}
 use Rattle.slices.specs.declared.knowing.Known.{Known}
 use Rattle.slices.proofs.StillKnown.{rows_stay_known}
@@ -84,45 +84,49 @@ known_kept known old mid same holds = subst (KnownIn known) (sym same.0.now_is) 
 pub goes_known_from : {X E : Type 0} (known after : Option Known) (r : Result X E) (old mid new : State) → IsUnchanged old mid → GoesOnKnown known after r mid new → GoesOnKnown known after r old new
 goes_known_from known after r old mid new same goes = ok_to r (λ a. (same.0.was_open, a.1, a.2 ∙ same.0.mode, λ h. a.3 (known_kept known old mid same h))) goes
 
--- more orders are known, no number is smaller, and some rows are forgotten
-pub holds_more : (known after : Known) (puts : Put) (t : Tables) → Keeps known.lines after.lines → Keeps known.urgent after.urgent → IsRaised puts known.bounds after.bounds → ForgetsPut puts known.rows after.rows → HoldsOf known t → HoldsOf after t
-holds_more known after puts t keeps keeps_urgent raised forgets holds = record {
+-- more orders are known, no number is smaller, some rows are forgotten, and what follows what is written is so
+pub holds_more : (known after : Known) (puts : Put) (t : Tables) → Keeps known.lines after.lines → Keeps known.urgent after.urgent → IsRaised puts known.bounds after.bounds → ForgetsPut puts known.rows after.rows → (KnowsFollowed t known.rows.followed → KnowsFollowed t after.rows.followed) → HoldsOf known t → HoldsOf after t
+holds_more known after puts t keeps keeps_urgent raised forgets followed holds = record {
   lines = λ o g up there. keeps g o (holds.lines o g up there);
   urgent = λ o g up there hurried. keeps_urgent g o (holds.urgent o g up there hurried);
   bounds = bounds_more puts known.bounds after.bounds t raised holds.bounds;
-  rows = rows_stay_known puts t known.rows after.rows forgets holds.rows;
+  rows = rows_stay_known puts t known.rows after.rows forgets (followed holds.rows.followed) holds.rows;
 }
 
 -- A change is written, and what follows it has its rows
 
 module _ (known put after : Known) (change : Change) (row : RepeatRow) (keeps : Keeps known.lines put.lines) (keeps_urgent : Keeps known.urgent put.urgent) (raised : IsRaised change.put known.bounds put.bounds) (forgets : ForgetsPut change.put known.rows put.rows)
     (same : after ≡ record put { rows = record put.rows { followed = after.rows.followed } }) where
-  left_written : (t : Tables) → HoldsOf known t → HoldsBeside after t
-  left_written t holds =
-      let more = holds_more known put change.put t keeps keeps_urgent raised forgets holds in
+  left_written : (t : Tables) → (KnowsFollowed t known.rows.followed → KnowsFollowed t put.rows.followed) → HoldsOf known t → HoldsBeside after t
+  left_written t followed holds =
+      let more = holds_more known put change.put t keeps keeps_urgent raised forgets followed holds in
       subst (λ (k : Known). HoldsBeside k t) (sym same) (record { lines = more.lines; urgent = more.urgent; bounds = more.bounds })
 
-  holds_written : (t : Tables) → Knows change.put t put → Follows change put.rows.followed after.rows.followed → HoldsOf known t → HoldsOf after (with_repeat row (change_written change t))
-  holds_written t knows follows holds = subst (λ (k : Known). HoldsOf k (with_repeat row (change_written change t))) (sym same) (record {
-    lines = covers_written change row t known put holds.lines keeps knows;
-    urgent = covers_urgent_written change row t known put holds.urgent keeps_urgent knows;
-    bounds = bounds_written change row t known.bounds put.bounds raised holds.bounds;
-    rows = rows_written change row t known.rows put.rows after.rows.followed forgets follows holds.rows;
-  })
+  holds_written : (t : Tables) → (KnowsFollowed t known.rows.followed → KnowsFollowed t put.rows.followed) → (KnowsFollowed t known.rows.followed → Knows change.put t put) → Follows change put.rows.followed after.rows.followed → HoldsOf known t
+      → HoldsOf after (with_repeat row (change_written change t))
+  holds_written t followed knows follows holds =
+      let told = knows holds.rows.followed in
+      subst (λ (k : Known). HoldsOf k (with_repeat row (change_written change t))) (sym same) (record {
+        lines = covers_written change row t known put holds.lines keeps told;
+        urgent = covers_urgent_written change row t known put holds.urgent keeps_urgent told;
+        bounds = bounds_written change row t known.bounds put.bounds raised holds.bounds;
+        rows = rows_written change row t known.rows put.rows after.rows.followed forgets follows (followed holds.rows.followed) holds.rows;
+      })
 
-  pub known_written : {X E : Type 0} (r : Result X E) (old mid new : State) → IsUnchanged old mid → Knows change.put (tables_in old.now.trees) put → IfOk r (λ _. Follows change put.rows.followed after.rows.followed) → IfErr r (λ _. after ≡ put)
+  pub known_written : {X E : Type 0} (r : Result X E) (old mid new : State) → IsUnchanged old mid → (KnowsFollowed (tables_in old.now.trees) known.rows.followed → KnowsFollowed (tables_in old.now.trees) put.rows.followed)
+      → (KnowsFollowed (tables_in old.now.trees) known.rows.followed → Knows change.put (tables_in old.now.trees) put) → IfOk r (λ _. Follows change put.rows.followed after.rows.followed) → IfErr r (λ _. after ≡ put)
       → OnOk r (Goes (λ t. with_repeat row (change_written change t)) mid new) → LeavesKnown (Some known) (Some after) r old new
-  known_written (Ok x) old mid new unchanged knows follows unwritten goes = record {
-    before = left_written (tables_in old.now.trees);
+  known_written (Ok x) old mid new unchanged followed knows follows unwritten goes = record {
+    before = left_written (tables_in old.now.trees) followed;
     answered = (
       unchanged.0.was_open,
       goes.ready,
       goes.mode ∙ unchanged.0.mode,
-      λ holds. subst (λ (t : Tables). HoldsOf after t) (sym (goes.tables ∙ ap (λ (db : Database). with_repeat row (change_written change (tables_in db.trees))) unchanged.0.now_is)) (holds_written (tables_in old.now.trees) knows follows holds),
+      λ holds. subst (λ (t : Tables). HoldsOf after t) (sym (goes.tables ∙ ap (λ (db : Database). with_repeat row (change_written change (tables_in db.trees))) unchanged.0.now_is)) (holds_written (tables_in old.now.trees) followed knows follows holds),
     );
   }
-  known_written (Err e) old mid new unchanged knows follows unwritten goes = record {
-    before = λ holds. subst (λ (k : Known). HoldsOf k (tables_in old.now.trees)) (sym unwritten) (holds_more known put change.put (tables_in old.now.trees) keeps keeps_urgent raised forgets holds);
+  known_written (Err e) old mid new unchanged followed knows follows unwritten goes = record {
+    before = λ holds. subst (λ (k : Known). HoldsOf k (tables_in old.now.trees)) (sym unwritten) (holds_more known put change.put (tables_in old.now.trees) keeps keeps_urgent raised forgets followed holds);
     answered = tt;
   }
 

@@ -7,39 +7,27 @@ use Rattle.std.specs.declared.cmp.Ordering.{Ordering}
 use Rattle.std.specs.Cmp.Lexicographic.{slice_cmp}
 use Rattle.std.proofs.lemmas.Bool.{cases_Bool}
 use Rattle.values.specs.Values.{same_text}
-use Rattle.values.specs.declared.lot.LotId.{LotId}
 use Rattle.commands.specs.Tables.{Tables}
-use Rattle.commands.specs.declared.rows.BinRow.{BinRow}
-use Rattle.commands.specs.declared.rows.ItemRow.{ItemRow}
-use Rattle.commands.specs.declared.rows.LeastRow.{LeastRow}
-use Rattle.commands.specs.declared.rows.LineRow.{LineRow}
-use Rattle.commands.specs.declared.rows.LotRow.{LotRow}
-use Rattle.commands.specs.declared.rows.RecallRow.{RecallRow}
 use Rattle.commands.specs.declared.rows.RepeatRow.{RepeatRow}
 use Rattle.table_words.specs.Found.{AreRows}
-use Rattle.table_words.specs.Typed.{same_item, item_key, same_least, least_key, same_bin, bin_key, same_lot, lot_key, same_recall, recall_key, same_order, order_key, LineKey, same_line, line_key, with_item, with_least, with_bin, with_lot, with_recall, with_stock, without_stock, with_order, with_urgent, with_line, with_staged, without_staged, with_reserved, without_reserved, with_shipment, with_shipline, with_card, with_repeat}
+use Rattle.table_words.specs.Typed.{same_item, item_key, same_least, least_key, same_bin, bin_key, same_recall, recall_key, with_item, with_least, with_bin, with_lot, with_recall, with_repeat}
 use Rattle.table_words.proofs.KeyLemmas.{IsSame}
 use Rattle.machine.proofs.Tests.{or_none}
 use Rattle.row_rules.specs.declared.slice.Change.{Change}
-use Rattle.slice_lists.specs.LotOrder.{lot_key as turned_lot, lot_key_cmp, lots_told}
-use Rattle.slice_lists.specs.LineOrder.{turned_line, line_key_cmp, lines_told}
 use Rattle.slice_lists.specs.NameOrder.{names_told}
 use Rattle.keyed_rows.specs.Writes.{each_written}
 use Rattle.goods_tables.specs.Bins.{bins_laws}
 use Rattle.goods_tables.specs.Items.{items_laws}
 use Rattle.goods_tables.specs.Least.{least_laws}
-use Rattle.goods_tables.specs.Lots.{lots_laws}
 use Rattle.goods_tables.specs.Recalls.{recalls_laws}
-use Rattle.order_tables.specs.Lines.{lines_laws}
-use Rattle.order_tables.specs.Orders.{orders_laws}
-use Rattle.changes.specs.Written.{names_written, goods_written, lines_written, stage_emptied, orders_written, change_written}
+use Rattle.changes.specs.Written.{names_written, change_written}
 use Rattle.known_rows.specs.KnownRows.{RowMap, rows_at, ForgetsBy, Remembers}
 use Rattle.slices.specs.Following.{KnowsFollowed, Follows}
 use Rattle.slices.specs.Remembering.{KnowsRows, ForgetsPut}
 use Rattle.slices.specs.declared.followed.Followed.{Followed}
 use Rattle.slices.specs.declared.rows_known.RowsKnown.{RowsKnown}
-use Rattle.store.proofs.FollowedWritten.{followed_written}
-use Rattle.store.proofs.LinesWritten.{rows_spare, stage_spares, Ordered, ordered, goods_spare, change_spares}
+use Rattle.store.proofs.FollowedWritten.{Goods, goods_left, followed_written}
+use Rattle.store.proofs.LinesWritten.{rows_spare}
 
 -- A row is put that is none of those that are sought
 
@@ -84,14 +72,6 @@ module _ {B Q K R : Type 0} (cmp : Q → Q → Ordering) (key_of : B → Q) (sam
         left None h = tt
         left (Some found) h = spared rows t at found h.1 (subst (λ y. IfSome y (AreAt t at)) h.0 (known at))
 
--- Goods are left by what writes other rows
-
-abbrev Goods : Type 0
-Goods = (List ℕ → Option ItemRow) × (List ℕ → Option LeastRow) × (List ℕ → Option BinRow) × (LotId → Option LotRow) × (LotId → Option RecallRow)
-
-abbrev goods : Tables → Goods
-goods t = (t.item, t.least, t.bin, t.lot, t.recall)
-
 module _ (c : Change) (row : RepeatRow) (t : Tables) where
   abbrev with_items : Tables
   with_items = each_written with_item c.put.items t
@@ -111,98 +91,35 @@ module _ (c : Change) (row : RepeatRow) (t : Tables) where
   abbrev left : Tables
   left = with_repeat row (change_written c t)
 
-  goods_left : goods left ≡ goods recalled
-  goods_left =
-      let p = c.put in
-      let d = c.dropped in
-      let unstocked : Tables = each_written (λ r. without_stock r.lot r.bin) d.stock recalled in
-      let stocked : Tables = goods_written p d t in
-      let one : Tables = each_written with_order p.orders stocked in
-      let two : Tables = each_written with_urgent p.urgents one in
-      let three : Tables = lines_written p stocked in
-      let emptied : Tables = stage_emptied d.stage three in
-      let four : Tables = each_written (λ r. without_staged r.order r.lot) d.staged emptied in
-      let five : Tables = each_written with_staged p.staged four in
-      let six : Tables = each_written (λ r. without_reserved r.order r.lot) d.reserved five in
-      let ordered : Tables = orders_written p d stocked in
-      let seven : Tables = each_written with_shipment p.shipments ordered in
-      let eight : Tables = each_written with_shipline p.shiplines seven in
-      rows_spare goods with_card (λ r u. refl) p.cards eight
-      ∙ rows_spare goods with_shipline (λ r u. refl) p.shiplines seven
-      ∙ rows_spare goods with_shipment (λ r u. refl) p.shipments ordered
-      ∙ rows_spare goods with_reserved (λ r u. refl) p.reserved six
-      ∙ rows_spare goods (λ r. without_reserved r.order r.lot) (λ r u. refl) d.reserved five
-      ∙ rows_spare goods with_staged (λ r u. refl) p.staged four
-      ∙ rows_spare goods (λ r. without_staged r.order r.lot) (λ r u. refl) d.staged emptied
-      ∙ stage_spares goods (λ o u. refl) d.stage three
-      ∙ rows_spare goods with_line (λ r u. refl) p.lines two
-      ∙ rows_spare goods with_urgent (λ r u. refl) p.urgents one
-      ∙ rows_spare goods with_order (λ r u. refl) p.orders stocked
-      ∙ rows_spare goods with_stock (λ r u. refl) p.stock unstocked
-      ∙ rows_spare goods (λ r. without_stock r.lot r.bin) (λ r u. refl) d.stock recalled
-
   items_left : left.item ≡ with_items.item
   items_left =
-      ap (λ (x : Goods). x.0) goods_left ∙ rows_spare (λ u. u.item) with_recall (λ r u. refl) c.put.recalls lotted ∙ rows_spare (λ u. u.item) with_lot (λ r u. refl) c.put.lots named
+      ap (λ (x : Goods). x.0) (goods_left c row t) ∙ rows_spare (λ u. u.item) with_recall (λ r u. refl) c.put.recalls lotted ∙ rows_spare (λ u. u.item) with_lot (λ r u. refl) c.put.lots named
       ∙ rows_spare (λ u. u.item) with_bin (λ r u. refl) c.put.bins asked ∙ rows_spare (λ u. u.item) with_least (λ r u. refl) c.put.least with_items
 
   least_left : left.least ≡ asked.least
   least_left =
-      ap (λ (x : Goods). x.1) goods_left ∙ rows_spare (λ u. u.least) with_recall (λ r u. refl) c.put.recalls lotted ∙ rows_spare (λ u. u.least) with_lot (λ r u. refl) c.put.lots named ∙ rows_spare (λ u. u.least) with_bin (λ r u. refl) c.put.bins asked
+      ap (λ (x : Goods). x.1) (goods_left c row t) ∙ rows_spare (λ u. u.least) with_recall (λ r u. refl) c.put.recalls lotted ∙ rows_spare (λ u. u.least) with_lot (λ r u. refl) c.put.lots named ∙ rows_spare (λ u. u.least) with_bin (λ r u. refl) c.put.bins asked
 
   least_before : with_items.least ≡ t.least
   least_before = rows_spare (λ u. u.least) with_item (λ r u. refl) c.put.items t
 
   recalls_left : left.recall ≡ recalled.recall
-  recalls_left = ap (λ (x : Goods). x.4) goods_left
+  recalls_left = ap (λ (x : Goods). x.4) (goods_left c row t)
 
   recalls_before : lotted.recall ≡ t.recall
   recalls_before =
       rows_spare (λ u. u.recall) with_lot (λ r u. refl) c.put.lots named ∙ rows_spare (λ u. u.recall) with_bin (λ r u. refl) c.put.bins asked ∙ rows_spare (λ u. u.recall) with_least (λ r u. refl) c.put.least with_items
       ∙ rows_spare (λ u. u.recall) with_item (λ r u. refl) c.put.items t
 
-  lots_left : left.lot ≡ lotted.lot
-  lots_left = ap (λ (x : Goods). x.3) goods_left ∙ rows_spare (λ u. u.lot) with_recall (λ r u. refl) c.put.recalls lotted
-
-  lots_before : named.lot ≡ t.lot
-  lots_before = rows_spare (λ u. u.lot) with_bin (λ r u. refl) c.put.bins asked ∙ rows_spare (λ u. u.lot) with_least (λ r u. refl) c.put.least with_items ∙ rows_spare (λ u. u.lot) with_item (λ r u. refl) c.put.items t
-
   bins_left : left.bin ≡ named.bin
-  bins_left = ap (λ (x : Goods). x.2) goods_left ∙ rows_spare (λ u. u.bin) with_recall (λ r u. refl) c.put.recalls lotted ∙ rows_spare (λ u. u.bin) with_lot (λ r u. refl) c.put.lots named
+  bins_left = ap (λ (x : Goods). x.2) (goods_left c row t) ∙ rows_spare (λ u. u.bin) with_recall (λ r u. refl) c.put.recalls lotted ∙ rows_spare (λ u. u.bin) with_lot (λ r u. refl) c.put.lots named
 
   bins_before : asked.bin ≡ t.bin
   bins_before = rows_spare (λ u. u.bin) with_least (λ r u. refl) c.put.least with_items ∙ rows_spare (λ u. u.bin) with_item (λ r u. refl) c.put.items t
 
-  abbrev stocked : Tables
-  stocked = goods_written c.put c.dropped t
-
-  abbrev with_orders : Tables
-  with_orders = each_written with_order c.put.orders stocked
-
-  abbrev with_urgents : Tables
-  with_urgents = each_written with_urgent c.put.urgents with_orders
-
-  orders_left : left.order ≡ with_orders.order
-  orders_left = ap (λ (x : Ordered). x.0) (change_spares c t) ∙ rows_spare (λ u. u.order) with_line (λ r u. refl) c.put.lines with_urgents ∙ rows_spare (λ u. u.order) with_urgent (λ r u. refl) c.put.urgents with_orders
-
-  orders_before : stocked.order ≡ t.order
-  orders_before = ap (λ (x : Ordered). x.0) (goods_spare c.put c.dropped t)
-
-  abbrev line_at : Tables → LineKey → Option LineRow
-  line_at u k = u.line k.0 k.1
-
-  abbrev by_line : Ordered → LineKey → Option LineRow
-  by_line x k = x.1 k.0 k.1
-
-  lines_left : line_at left ≡ line_at (lines_written c.put stocked)
-  lines_left = ap by_line (change_spares c t)
-
-  lines_before : line_at with_urgents ≡ line_at t
-  lines_before = rows_spare line_at with_urgent (λ r u. refl) c.put.urgents with_orders ∙ rows_spare line_at with_order (λ r u. refl) c.put.orders stocked ∙ ap by_line (goods_spare c.put c.dropped t)
-
   -- what was forgotten before, and what follows the change
-  pub rows_written : (old mid : RowsKnown) (followed : Followed) → ForgetsPut c.put old mid → Follows c mid.followed followed → KnowsRows t old → KnowsRows left (record mid { followed = followed })
-  rows_written old mid followed forgets follows known = record {
+  pub rows_written : (old mid : RowsKnown) (followed : Followed) → ForgetsPut c.put old mid → Follows c mid.followed followed → KnowsFollowed t mid.followed → KnowsRows t old → KnowsRows left (record mid { followed = followed })
+  rows_written old mid followed forgets follows before known = record {
     items =
         known_same (slice_cmp nat_cmp) reverse same_text names_told same_item item_key items_laws.one_key (λ u. u.item) same_text (λ r. r.gtin) (λ by r. refl) with_items left (sym items_left) mid.items.rows
         (known_spared (slice_cmp nat_cmp) reverse same_text names_told same_item item_key items_laws.one_key (λ u. u.item) same_text (λ r. r.gtin) (λ by r. refl) with_item (λ r u. refl) c.put.items t old.items.rows mid.items.rows forgets.items known.items);
@@ -210,29 +127,13 @@ module _ (c : Change) (row : RepeatRow) (t : Tables) where
         known_same (slice_cmp nat_cmp) reverse same_text names_told same_least least_key least_laws.one_key (λ u. u.least) same_text (λ r. r.gtin) (λ by r. refl) asked left (sym least_left) mid.least.rows
         (known_spared (slice_cmp nat_cmp) reverse same_text names_told same_least least_key least_laws.one_key (λ u. u.least) same_text (λ r. r.gtin) (λ by r. refl) with_least (λ r u. refl) c.put.least with_items old.least.rows mid.least.rows forgets.least
         (known_same (slice_cmp nat_cmp) reverse same_text names_told same_least least_key least_laws.one_key (λ u. u.least) same_text (λ r. r.gtin) (λ by r. refl) t with_items (sym least_before) old.least.rows known.least));
-    orders =
-        known_same (slice_cmp nat_cmp) reverse same_text names_told same_order order_key orders_laws.one_key (λ u. u.order) same_text (λ r. r.order) (λ by r. refl) with_orders left (sym orders_left) mid.orders.rows
-        (known_spared (slice_cmp nat_cmp) reverse same_text names_told same_order order_key orders_laws.one_key (λ u. u.order) same_text (λ r. r.order) (λ by r. refl) with_order (λ r u. refl) c.put.orders stocked old.orders.rows mid.orders.rows forgets.orders
-        (known_same (slice_cmp nat_cmp) reverse same_text names_told same_order order_key orders_laws.one_key (λ u. u.order) same_text (λ r. r.order) (λ by r. refl) t stocked (sym orders_before) old.orders.rows known.orders));
-    lines =
-        known_same (slice_cmp nat_cmp) reverse same_text names_told same_line line_key lines_laws.one_key line_at (λ o k. same_text o k.0) (λ r. r.order) (λ by r. refl) (lines_written c.put stocked) left (sym lines_left) mid.lines.rows
-        (known_spared (slice_cmp nat_cmp) reverse same_text names_told same_line line_key lines_laws.one_key line_at (λ o k. same_text o k.0) (λ r. r.order) (λ by r. refl) with_line (λ r u. refl) c.put.lines with_urgents old.lines.rows mid.lines.rows forgets.lines
-        (known_same (slice_cmp nat_cmp) reverse same_text names_told same_line line_key lines_laws.one_key line_at (λ o k. same_text o k.0) (λ r. r.order) (λ by r. refl) t with_urgents (sym lines_before) old.lines.rows known.lines));
-    lines_at =
-        known_same line_key_cmp turned_line same_line lines_told same_line line_key lines_laws.one_key line_at same_line (λ r. (r.order, r.gtin)) (λ by r. refl) (lines_written c.put stocked) left (sym lines_left) mid.lines_at.rows
-        (known_spared line_key_cmp turned_line same_line lines_told same_line line_key lines_laws.one_key line_at same_line (λ r. (r.order, r.gtin)) (λ by r. refl) with_line (λ r u. refl) c.put.lines with_urgents old.lines_at.rows mid.lines_at.rows forgets.lines_at
-        (known_same line_key_cmp turned_line same_line lines_told same_line line_key lines_laws.one_key line_at same_line (λ r. (r.order, r.gtin)) (λ by r. refl) t with_urgents (sym lines_before) old.lines_at.rows known.lines_at));
     recalls =
         known_same (slice_cmp nat_cmp) reverse same_text names_told same_recall recall_key recalls_laws.one_key (λ u. u.recall) (λ g k. same_text g k.gtin) (λ r. r.lot.gtin) (λ by r. refl) recalled left (sym recalls_left) mid.recalls.rows
         (known_spared (slice_cmp nat_cmp) reverse same_text names_told same_recall recall_key recalls_laws.one_key (λ u. u.recall) (λ g k. same_text g k.gtin) (λ r. r.lot.gtin) (λ by r. refl) with_recall (λ r u. refl) c.put.recalls lotted old.recalls.rows mid.recalls.rows forgets.recalls
         (known_same (slice_cmp nat_cmp) reverse same_text names_told same_recall recall_key recalls_laws.one_key (λ u. u.recall) (λ g k. same_text g k.gtin) (λ r. r.lot.gtin) (λ by r. refl) t lotted (sym recalls_before) old.recalls.rows known.recalls));
-    lots =
-        known_same lot_key_cmp turned_lot same_lot lots_told same_lot lot_key lots_laws.one_key (λ u. u.lot) same_lot (λ r. r.lot) (λ by r. refl) lotted left (sym lots_left) mid.lots.rows
-        (known_spared lot_key_cmp turned_lot same_lot lots_told same_lot lot_key lots_laws.one_key (λ u. u.lot) same_lot (λ r. r.lot) (λ by r. refl) with_lot (λ r u. refl) c.put.lots named old.lots.rows mid.lots.rows forgets.lots
-        (known_same lot_key_cmp turned_lot same_lot lots_told same_lot lot_key lots_laws.one_key (λ u. u.lot) same_lot (λ r. r.lot) (λ by r. refl) t named (sym lots_before) old.lots.rows known.lots));
     bins =
         known_same (slice_cmp nat_cmp) reverse same_text names_told same_bin bin_key bins_laws.one_key (λ u. u.bin) same_text (λ r. r.name) (λ by r. refl) named left (sym bins_left) mid.bins.rows
         (known_spared (slice_cmp nat_cmp) reverse same_text names_told same_bin bin_key bins_laws.one_key (λ u. u.bin) same_text (λ r. r.name) (λ by r. refl) with_bin (λ r u. refl) c.put.bins asked old.bins.rows mid.bins.rows forgets.bins
         (known_same (slice_cmp nat_cmp) reverse same_text names_told same_bin bin_key bins_laws.one_key (λ u. u.bin) same_text (λ r. r.name) (λ by r. refl) t asked (sym bins_before) old.bins.rows known.bins));
-    followed = followed_written c row t mid.followed followed follows (subst (λ (x : Followed). KnowsFollowed t x) (sym forgets.followed) known.followed);
+    followed = followed_written c row t mid.followed followed follows before;
   }

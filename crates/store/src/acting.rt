@@ -24,7 +24,7 @@ use books_schema::ending::finish;
 use changes::write_change;
 use commands::{Command, Key, Listed, spell};
 use rules::{Change, decide};
-use slices::{Known, know_put, read_slice};
+use slices::{Known, read_slice};
 use sqlite::{Alter, Connection, Transaction};
 use std::alloc::Global;
 
@@ -51,7 +51,6 @@ pub fn act_once<S: Alter>(
     ensures survives { Survives (state S.Store conn.old) (state S.Store conn.new) (λ trees. IsTrue (is_key_of key.now command.now) → (first : ℤ) (acts : List Act) → IsHistory first acts → KeepsBooks first acts (state S.Store conn.old)
         → AreBooks first (acts_after first acts (record { key = key.now; command = command.now })) trees) }
 {
-    let _outside = conn.is_autocommit();
     let mut tx = conn.transaction();
     let reply = act_inside(alloc, &mut tx, known, key, command);
     let acted = reply.is_ok();
@@ -181,7 +180,7 @@ fn accept_known<S: Alter>(
         → KeepsCommit (state S.Store tx.old.conn.now) (state S.Store tx.new.conn.now) }
     ensures survives { Survives (state S.Store tx.old.conn.now) (state S.Store tx.new.conn.now) (λ _. ⊥) }
 {
-    know_put(alloc, tx, known, &change.put)?;
+    known.add_change(alloc, tx, &change.put)?;
     let reply = accept(alloc, tx, key, command, change);
     follow(known, change, &reply);
     reply

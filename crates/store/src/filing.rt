@@ -63,7 +63,6 @@ pub fn file_once<S: Alter>(
     ensures survives { Survives (state S.Store conn.old) (state S.Store conn.new) (λ trees. AreKeysOf rows.now → (first : ℤ) (acts : List Act) → IsHistory first acts → KeepsBooks first acts (state S.Store conn.old)
         → AreBooks first (acts_after_file first acts (rows_of rows.now)) trees) }
 {
-    let _outside = conn.is_autocommit();
     let mut tx = conn.transaction();
     let filed = file_inside(alloc, &mut tx, known, day, rows);
     finish(tx, filed)

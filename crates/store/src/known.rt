@@ -14,7 +14,7 @@ ghost use Rattle.store.specs.Knowing.{HasKnown, HasLeft};
 
 use crate::{Fault, Reply};
 use rules::Change;
-use slices::{Known, RowsKnown, first_known};
+use slices::{Known, RowsKnown};
 use sqlite::{Alter, Transaction};
 use std::alloc::Global;
 
@@ -38,7 +38,7 @@ pub fn known_in<S: Alter>(
 {
     match known.take() {
         Some(found) => Ok(found),
-        None => first_known(alloc, tx).map_err(Fault::from),
+        None => Known::read(alloc, tx).map_err(Fault::from),
     }
 }
 

@@ -83,7 +83,6 @@ fn show_shipped<S: Alter>(
     ensures stays { HasCleanDisk (state S.Store conn.new) → IsSettled (state S.Store conn.old) → KeepsCommit (state S.Store conn.old) (state S.Store conn.new) × IsSettled (state S.Store conn.new) }
     ensures survives { Survives (state S.Store conn.old) (state S.Store conn.new) (λ _. ⊥) }
 {
-    let _outside = conn.is_autocommit();
     let mut tx = conn.transaction();
     let found = find_shipped(alloc, &mut tx, line);
     tx.rollback();

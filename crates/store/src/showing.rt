@@ -48,7 +48,6 @@ pub fn show<Q: Query, S: Alter>(
     ensures survives { Survives (state S.Store conn.old) (state S.Store conn.new) (λ _. ⊥) }
 {
     let mut rows = take_rows(alloc, known);
-    let _outside = conn.is_autocommit();
     let mut tx = conn.transaction();
     let found = find_found(alloc, &mut tx, known.as_ref(), &mut rows, query);
     tx.rollback();

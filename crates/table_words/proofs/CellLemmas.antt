@@ -66,6 +66,24 @@ module _ {X : Type 0} (is : Row → Bool) (read : Row → X) where
       sym xs_are ∙ ap (map seen) are ∙ map-map seen show rows ∙ (λ i. map (λ r. same_seen r i) rows)
       ∙ all_read rows (unmapped has is show same_has rows (subst (AllByRecursion (λ v. has v ≡ true)) are good))
 
+-- what holds of all typed rows holds of those among some of the rows
+pub typed_some : {X : Type 0} (P : X → Type 0) (is : Row → Bool) (read : Row → X) (part : Row → Bool) (rows : List Row) → AllByRecursion P (typed is read rows) → AllByRecursion P (typed is read (filter part rows))
+typed_some P is read part [] all = tt
+typed_some P is read part (r ∷ rows) all = elim (cases_Bool (is r)) [
+  | inl typed_one ↦
+      let both = rw typed_one at all in
+      elim (cases_Bool (part r)) [
+        | inl within ↦ rw (within, typed_one) (both.0, typed_some P is read part rows both.1)
+        | inr without ↦ rw without (typed_some P is read part rows both.1)
+      ]
+  | inr untyped ↦
+      let others = rw untyped at all in
+      elim (cases_Bool (part r)) [
+        | inl within ↦ rw (within, untyped) (typed_some P is read part rows others)
+        | inr without ↦ rw without (typed_some P is read part rows others)
+      ]
+]
+
 -- ---- values
 
 pub and_true : (b : Bool) → (b && true) ≡ b

@@ -6,3 +6,4 @@ pub mod KeyLemmas
 pub mod CellLemmas
 pub mod StepLemmas
 pub mod CallLemmas
+mod Eight

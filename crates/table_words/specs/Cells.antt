@@ -67,9 +67,6 @@ abbrev pub signed_in : Value → ℤ
 signed_in (Int n) = n
 signed_in _ = pos 0
 
-abbrev pub is_any_number : ℤ → Bool
-is_any_number n = true
-
 -- the units of a card line: one command brings 1 to 1,000,000, and a count may write off all that an item has
 abbrev pub is_card_units : ℤ → Bool
 is_card_units (pos n) = is_between 1 QTY_MAX n

@@ -1,5 +1,9 @@
 //! Columns, one after another: one alone, or the first and the others.
 
+ghost use Rattle.std.specs.Prelude.{◌≡◌, ◌≤◌, true, take};
+ghost use Rattle.sqlite.specs.Values.{bound};
+ghost use Rattle.table_words.specs.declared.chain.TheConstants.{COLUMNS_MAX};
+
 use crate::column::{Column, read_column};
 use sqlite::Row;
 use sqlite::types::ValueRef;
@@ -50,6 +54,24 @@ pub trait Chain: Copy {
         ensures { IsTrue result ↔ (self.now ≡ other.now) };
 
     ghost chain_laws: { AreColumns columns count };
+}
+
+/// The values of the columns, and behind them NULL.
+pub fn values<C: Chain>(columns: &C) -> [ValueRef<'_>; COLUMNS_MAX]
+    requires fit { C.columns.fits columns.now ≡ true }
+    requires few { C.count ≤ COLUMNS_MAX }
+    ensures { bound (take C.count result) ≡ C.columns.cells columns.now }
+{
+    [
+        columns.value_at(0),
+        columns.value_at(1),
+        columns.value_at(2),
+        columns.value_at(3),
+        columns.value_at(4),
+        columns.value_at(5),
+        columns.value_at(6),
+        columns.value_at(7),
+    ]
 }
 
 impl<A: Column> Chain for A {
@@ -120,10 +142,9 @@ impl<A: Column, R: Chain> Chain for (A, R) {
     }
 
     fn read_at(row: &Row, at: usize) -> Option<(A, R)> {
-        match (read_column(row, at), R::read_at(row, at + 1)) {
-            (Some(first), Some(others)) => Some((first, others)),
-            _ => None,
-        }
+        let first = read_column(row, at)?;
+        let others = R::read_at(row, at + 1)?;
+        Some((first, others))
     }
 
     fn are_same(&self, other: &(A, R)) -> bool {

@@ -6,7 +6,7 @@ ghost use Rattle.sqlite_value.specs.Order.{column};
 ghost use Rattle.table_words.specs.Stored.{up_to};
 
 use commands::limits::UNITS_MAX;
-use commands::{BinKind, CardKind, OrderState};
+use commands::{BinKind, CardKind, OrderState, Short};
 use label::{BusinessDay, Day};
 use sqlite::Row;
 use sqlite::types::ValueRef;
@@ -200,6 +200,36 @@ impl<const N: usize> Column for Text<N> {
 
     fn is_same(&self, other: &Text<N>) -> bool {
         *self == *other
+    }
+}
+
+impl Column for Short {
+    ghost use Rattle.std.specs.Prelude.{refl};
+    ghost use Rattle.commands.specs.declared.limits.TheConstants.{SHORT_MAX};
+    ghost use Rattle.table_words.specs.Cells.{fits_in};
+    ghost use Rattle.table_words.specs.Stored.{text_stored};
+
+    ghost stored = { text_stored (fits_in SHORT_MAX) };
+
+    ghost stored_laws = { record { not_null = refl; bound = λ x. refl } };
+
+    fn fits(&self) -> bool {
+        true
+    }
+
+    fn value(&self) -> ValueRef<'_> {
+        ValueRef::Text(self.as_bytes())
+    }
+
+    fn of(value: ValueRef<'_>) -> Option<Short> {
+        match value {
+            ValueRef::Text(text) => Short::new(text),
+            _ => None,
+        }
+    }
+
+    fn is_same(&self, other: &Short) -> bool {
+        self.as_bytes() == other.as_bytes()
     }
 }
 

@@ -4,8 +4,7 @@ use crate::memory::answering::house_after;
 use crate::memory::rows::has_rows_after;
 use crate::memory::steps::{BOOKED, MADE};
 use crate::opening::closed;
-use crate::rows::gives;
-use book_trials::first_day;
+use book_trials::{first_day, gives};
 use books_schema::ready_connection::{Leftover, Orderly};
 use refused_calls::{Call, Told, is_refused};
 use sqlite::{Alter, Connection, MemStore};
@@ -95,13 +94,8 @@ fn created_again<S: Orderly + Drop>(
     conn: Connection<S>,
 ) -> Connection<S> {
     let mut conn = conn;
-    gives(
-        rt,
-        host.alloc(),
-        &mut conn,
-        "SELECT name FROM sqlite_schema",
-        "",
-    );
+    let tables = "SELECT name FROM sqlite_schema";
+    assert!(rt; gives(host.alloc(), &mut conn, tables, ""), "a table");
     again(host, rt, conn, Making::Create)
 }
 

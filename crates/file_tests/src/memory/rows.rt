@@ -1,8 +1,7 @@
 //! The rows of every table after so many steps of the day.
 
 use crate::memory::steps::{DayStep, step_at};
-use crate::rows::{gives, shown};
-use book_trials::QUERIES;
+use book_trials::{QUERIES, gives, shown};
 use sqlite::{Alter, Connection};
 use std::alloc::Global;
 use std::process::Abort;
@@ -64,10 +63,19 @@ pub(crate) fn has_rows_after<S: Alter>(
     done: usize,
 ) {
     for (table, query) in NAMES.as_slice().iter().zip(QUERIES.as_slice()) {
-        gives(rt, alloc, conn, query, expected(rt, table, done));
+        assert!(rt;
+            gives(alloc, conn, query, expected(rt, table, done)),
+            "{table}"
+        );
     }
-    let repeats = shown(rt, alloc, conn, QUERIES[13]);
+    let repeats = shown(alloc, conn, QUERIES[13]).expect(rt, "rows");
     are_repeats(rt, repeats.as_str(), done);
-    gives(rt, alloc, conn, QUERIES[14], expected(rt, "least", done));
-    gives(rt, alloc, conn, QUERIES[15], expected(rt, "urgents", done));
+    assert!(rt;
+        gives(alloc, conn, QUERIES[14], expected(rt, "least", done)),
+        "least"
+    );
+    assert!(rt;
+        gives(alloc, conn, QUERIES[15], expected(rt, "urgents", done)),
+        "urgents"
+    );
 }

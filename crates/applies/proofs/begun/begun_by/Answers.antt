@@ -1,28 +1,44 @@
-use Rattle.std.proofs.Common.{◌≡◌, Some, sym, ◌∙◌}
+use Rattle.std.proofs.Common.{◌≡◌, Option, Some, None, ap, sym, subst, ◌∙◌}
 use Rattle.std.proofs.lemmas.Result.{IfOk-weaker}
-use Rattle.histories.specs.Start.{first_dated}
-use Rattle.histories.specs.declared.dated.Dated.TheVariants.{Receipt}
+use Rattle.spellings.specs.declared.start.Start.{Start}
+use Rattle.spellings.specs.declared.start.Start.TheVariants.{Received, Opened}
+use Rattle.histories.specs.Start.{start_of, IsStartBy, IsStart}
+use Rattle.histories.proofs.Kept.{today_told}
 use Rattle.applies.specs.Begun.{line_day}
-use Rattle.applies.proofs.BegunDays.{of_receipt, begun_received, known_day}
-use Rattle.applies.proofs.FittingDays.{received_fits, known_fits}
+use Rattle.applies.proofs.BegunDays.{begun_told, begun_opened}
+use Rattle.applies.proofs.FittingDays.{none_opened, received_first, fits_told, fits_opened}
 use Rattle.applies.proofs.begun.begun_by.Goals as goal
 
-pub returns-in-Some-clause-begun : goal.returns-in-Some-clause-begun
-returns-in-Some-clause-begun g c clean first acts history holds found =
+pub returns-in_default-clause-begun : goal.returns-in_default-clause-begun
+returns-in_default-clause-begun g c clean first acts history holds found =
+    let told : IsStart first acts c.day.result = subst (λ (s : Option Start). IsStartBy first acts s c.day.result) (sym c.in_default.is ∙ found) (today_told first acts c.day.result (c.day.ensures.value ∙ holds.day)) in
+    (holds, begun_told first acts c.day.result history told)
+
+pub returns-in_default-clause-fits : goal.returns-in_default-clause-fits
+returns-in_default-clause-fits g c clean first acts history holds found =
+    let none : None ≡ start_of acts = sym c.in_default.is ∙ found in
+    let told : IsStart first acts c.day.result = subst (λ (s : Option Start). IsStartBy first acts s c.day.result) none (today_told first acts c.day.result (c.day.ensures.value ∙ holds.day)) in
+    fits_told first acts c.args.line.now c.day.result history (none_opened acts (sym none)) told
+
+pub returns-in-Received-clause-begun : goal.returns-in-Received-clause-begun
+returns-in-Received-clause-begun g c clean first acts history holds found =
     let h = c.card_day.ensures.day clean first acts history holds in
-    let is : Some (Receipt c.in-Some.lot c.in-Some.act) ≡ first_dated acts = sym (of_receipt c.args.found.now c.in-Some.lot c.in-Some.act (sym c.receipt_of.ensures ∙ c.in-Some.is)) ∙ found in
-    (h.0, IfOk-weaker c.card_day.result _ _ (λ day r. begun_received first acts c.in-Some.lot c.in-Some.act r.0 day history is r.1 r.2) h.1)
+    let told : Some (Received c.in-Received.lot c.in-Received.act) ≡ start_of acts = ap (λ s. Some s) (sym c.in-Received.is) ∙ sym c.in-Some.is ∙ found in
+    (h.0, IfOk-weaker c.card_day.result _ _ (λ day is. begun_told first acts day history (subst (λ (s : Option Start). IsStartBy first acts s day) told is)) h.1)
 
-pub returns-in-None-clause-begun : goal.returns-in-None-clause-begun
-returns-in-None-clause-begun g c clean first acts history holds found =
-    (holds, known_day first acts c.args.found.now c.day-today.result c.day_known.result (line_day c.args.line.now) history found (sym c.receipt_of.ensures ∙ c.in-None.is) (c.day-today.ensures.value ∙ holds.day) c.day_known.ensures)
-
-pub returns-in-Some-clause-fits : goal.returns-in-Some-clause-fits
-returns-in-Some-clause-fits g c clean first acts history holds found =
+pub returns-in-Received-clause-fits : goal.returns-in-Received-clause-fits
+returns-in-Received-clause-fits g c clean first acts history holds found =
     let h = c.card_day.ensures.day clean first acts history holds in
-    let is : Some (Receipt c.in-Some.lot c.in-Some.act) ≡ first_dated acts = sym (of_receipt c.args.found.now c.in-Some.lot c.in-Some.act (sym c.receipt_of.ensures ∙ c.in-Some.is)) ∙ found in
-    IfOk-weaker c.card_day.result _ _ (λ day r. received_fits first acts c.in-Some.lot c.in-Some.act r.0 c.args.line.now day history is r.1 r.2) h.1
+    let told : Some (Received c.in-Received.lot c.in-Received.act) ≡ start_of acts = ap (λ s. Some s) (sym c.in-Received.is) ∙ sym c.in-Some.is ∙ found in
+    let none = received_first acts c.in-Received.lot c.in-Received.act (sym told) in
+    IfOk-weaker c.card_day.result _ _ (λ day is. fits_told first acts c.args.line.now day history none (subst (λ (s : Option Start). IsStartBy first acts s day) told is)) h.1
 
-pub returns-in-None-clause-fits : goal.returns-in-None-clause-fits
-returns-in-None-clause-fits g c clean first acts history holds found =
-    known_fits first acts c.args.found.now c.day-today.result c.day_known.result c.args.line.now history found (sym c.receipt_of.ensures ∙ c.in-None.is) (c.day-today.ensures.value ∙ holds.day) c.day_known.ensures
+pub returns-in-Opened-clause-begun : goal.returns-in-Opened-clause-begun
+returns-in-Opened-clause-begun g c clean first acts history holds found =
+    let told : Some (Opened c.in-Opened.day) ≡ start_of acts = ap (λ s. Some s) (sym c.in-Opened.is) ∙ sym c.in-Some.is ∙ found in
+    (holds, begun_opened first acts c.in-Opened.day c.earlier_day.result (line_day c.args.line.now) history (sym told) c.earlier_day.ensures)
+
+pub returns-in-Opened-clause-fits : goal.returns-in-Opened-clause-fits
+returns-in-Opened-clause-fits g c clean first acts history holds found =
+    let told : Some (Opened c.in-Opened.day) ≡ start_of acts = ap (λ s. Some s) (sym c.in-Opened.is) ∙ sym c.in-Some.is ∙ found in
+    fits_opened first acts c.in-Opened.day c.args.line.now c.earlier_day.result (sym told) c.earlier_day.ensures

@@ -18,7 +18,7 @@ pub returns-in-Ok-clause-printed : goal.returns-in-Ok-clause-printed
 returns-in-Ok-clause-printed g c clean ready first acts history held today =
     let at = g.W.Write.contents in
     let a = state g.S.Store c.args.conn.now in
-    let b = state g.S.Store c.find_start.new.conn in
+    let b = state g.S.Store c.find_first_day.new.conn in
     let d = state g.S.Store c.print_from.new.conn in
     let one = c.in-Ok.ensures.survives in
     let two = c.print_from.ensures.survives in
@@ -29,11 +29,11 @@ returns-in-Ok-clause-printed g c clean ready first acts history held today =
 
 pub returns-in-Ok-clause-left : goal.returns-in-Ok-clause-left
 returns-in-Ok-clause-left g c clean ready =
-    left_on (state g.S.Store c.args.conn.now) (state g.S.Store c.find_start.new.conn) (state g.S.Store c.print_from.new.conn) c.in-Ok.ensures.survives c.print_from.ensures.survives c.in-Ok.ensures.same clean ready c.print_from.ensures.left
+    left_on (state g.S.Store c.args.conn.now) (state g.S.Store c.find_first_day.new.conn) (state g.S.Store c.print_from.new.conn) c.in-Ok.ensures.survives c.print_from.ensures.survives c.in-Ok.ensures.same clean ready c.print_from.ensures.left
 
 pub returns-in-Ok-clause-survives : goal.returns-in-Ok-clause-survives
 returns-in-Ok-clause-survives g c =
-    survives_on (state g.S.Store c.args.conn.now) (state g.S.Store c.find_start.new.conn) (state g.S.Store c.print_from.new.conn) c.in-Ok.ensures.survives c.print_from.ensures.survives c.in-Ok.ensures.same
+    survives_on (state g.S.Store c.args.conn.now) (state g.S.Store c.find_first_day.new.conn) (state g.S.Store c.print_from.new.conn) c.in-Ok.ensures.survives c.print_from.ensures.survives c.in-Ok.ensures.same
 
 pub returns-in-Err-clause-printed : goal.returns-in-Err-clause-printed
 returns-in-Err-clause-printed g c clean ready first acts history held today = inl (Appends-nil (g.W.Write.contents c.args.out))

@@ -12,7 +12,7 @@ use Rattle.histories.proofs.start.card_day.Goals as goal
 pub returns-in-Err-clause-day : goal.returns-in-Err-clause-day
 returns-in-Err-clause-day g c clean ready first acts history held =
     let old = state g.S.Store c.args.conn.now in
-    let start : CardDay = record { lot = c.args.lot.now; act = c.args.act; day = None } in
+    let start : CardDay = record { lot = c.args.lot; act = c.args.act; day = None } in
     IfOk-weaker c.day_at.result _ _ (λ day h.
     day_told first acts (lines first acts history old ready held) (lines_own first acts history old ready held) start c.each_of_all.new.sink
     (subst (λ (e : EachFault). HandsOver IsPassed TellsDay start (lines first acts history old ready held) c.each_of_all.new.sink (Err e)) h.0 (c.in-Err.ensures.handed clean ready held.typed)) day h.1) c.day_at.ensures.day

@@ -1,61 +1,39 @@
-use Rattle.std.proofs.Common.{◌≡◌, ℕ, Some, None, refl, sym, subst, ap, ◌∙◌}
-use Rattle.std.specs.Prelude.{ℤ, List, IfOk, Option}
-use Rattle.std.proofs.lemmas.Option.{same_Some, none-some}
-use Rattle.std.proofs.lemmas.Result.{on_ok_weaker}
-use Rattle.sqlite.proofs.Callers.{unchanged_then}
+use Rattle.std.proofs.Common.{refl, subst, ◌∙◌, Ok, Err, None}
+use Rattle.std.proofs.lemmas.Result.{IfOk-weaker}
 use Rattle.sqlite.specs.Held.{state}
-use Rattle.values.specs.declared.lot.LotId.{LotId}
-use Rattle.machine.specs.Acts.{Act}
-use Rattle.machine.specs.Standing.{today}
-use Rattle.histories.specs.Start.{IsStartBy, receipt, day_without_receipt}
-use Rattle.histories.specs.declared.dated.Dated.{Dated}
-use Rattle.histories.specs.declared.dated.Dated.TheVariants.{Receipt, Opening}
-use Rattle.histories.proofs.Twice.{was_clean, ready_on, held_on, left_on, survives_on}
+use Rattle.table_words.proofs.CallLemmas.{on_ok_if}
+use Rattle.each_row.specs.declared.fault.EachFault.{EachFault}
+use Rattle.each_row.specs.Handed.{HandsOver, IsLeft}
+use Rattle.histories.specs.Start.{Passes, Finds}
+use Rattle.histories.specs.declared.first_start.FirstStart.{FirstStart}
+use Rattle.histories.specs.declared.fault.HistoryFault.TheVariants.{Foreign}
+use Rattle.histories.proofs.Begun.{none_tells, one_tells}
+use Rattle.histories.proofs.Kept.{rows, found, mine, stays}
 use Rattle.histories.proofs.start.find_start.Goals as goal
 
-of_receipt : (o : Option Dated) (l : LotId) (n : ℕ) → receipt o ≡ Some (l, n) → o ≡ Some (Receipt l n)
-of_receipt None l n e = absurd (none-some _ e)
-of_receipt (Some (Opening last)) l n e = absurd (none-some _ e)
-of_receipt (Some (Receipt lot number)) l n e = ap (λ (p : LotId × ℕ). Some (Receipt p.0 p.1)) (same_Some (lot, number) (l, n) e)
+pub returns-in-Ok-clause-found : goal.returns-in-Ok-clause-found
+returns-in-Ok-clause-found g c clean ready first acts history held =
+    let old = state g.S.Store c.args.conn.now in
+    let start : FirstStart = record { alloc = c.args.alloc; done = 0; found = None; fault = Foreign } in
+    none_tells first acts history (rows first acts history old ready held) start c.each_of_all.new.sink refl (mine first acts history old ready held) (found first acts history old ready held) (c.in-Ok.ensures.handed clean ready held.typed)
 
-without : (first : ℤ) (acts : List Act) (o : Option Dated) (day : ℤ) → receipt o ≡ None → day ≡ today first acts → IsStartBy first acts o (day_without_receipt o day)
-without first acts None day none is = is
-without first acts (Some (Opening last)) day none is = refl
-without first acts (Some (Receipt lot number)) day none is = absurd (none-some _ (sym none))
+pub returns-in-Err-clause-found : goal.returns-in-Err-clause-found
+returns-in-Err-clause-found g c clean ready first acts history held =
+    let old = state g.S.Store c.args.conn.now in
+    let start : FirstStart = record { alloc = c.args.alloc; done = 0; found = None; fault = Foreign } in
+    IfOk-weaker c.found_at.result _ _ (λ d h.
+    h.1 ∙ one_tells first acts history (rows first acts history old ready held) start c.each_of_all.new.sink refl (mine first acts history old ready held)
+    (subst (λ (e : EachFault). HandsOver Passes Finds start (rows first acts history old ready held) c.each_of_all.new.sink (Err e)) h.0 (c.in-Err.ensures.handed clean ready held.typed)) (λ none. h.2 (h.1 ∙ none))) c.found_at.ensures.found
 
-pub returns-in-Some-clause-start : goal.returns-in-Some-clause-start
-returns-in-Some-clause-start g c clean ready first acts history held now =
-    let a = state g.S.Store c.args.conn.now in
-    let b = state g.S.Store c.find_dated.new.conn in
-    let d = state g.S.Store c.card_day.new.conn in
-    let one = c.in_ok-found.ensures.survives in
-    let two = c.card_day.ensures.survives in
-    let same = c.in_ok-found.ensures.same in
-    let is = c.in_ok-found.ensures.dated (was_clean a b d one two same clean) ready first acts history held in
-    let found = of_receipt c.in_ok-found.found c.in-Some.lot c.in-Some.act (sym c.receipt_of.ensures ∙ c.in-Some.is) in
-    subst (λ (o : Option Dated). IfOk c.card_day.result (λ begun. IsStartBy first acts o begun)) (sym found ∙ is)
-    (c.card_day.ensures.day clean (ready_on a b d one two same clean ready) first acts history (held_on a b d one two same first acts clean ready held))
+pub returns-in-Ok-clause-left : goal.returns-in-Ok-clause-left
+returns-in-Ok-clause-left g c clean ready = stays (state g.S.Store c.args.conn.now) (state g.S.Store c.each_of_all.new.conn) (Ok tt) (c.in-Ok.ensures.left clean ready)
 
-pub returns-in-None-clause-start : goal.returns-in-None-clause-start
-returns-in-None-clause-start g c clean ready first acts history held now =
-    let is = c.in_ok-found.ensures.dated clean ready first acts history held in
-    subst (λ (o : Option Dated). IsStartBy first acts o c.day_known.result) is
-    (subst (IsStartBy first acts c.in_ok-found.found) (sym c.day_known.ensures) (without first acts c.in_ok-found.found c.args.today (sym c.receipt_of.ensures ∙ c.in-None.is) now))
+pub returns-in-Err-clause-left : goal.returns-in-Err-clause-left
+returns-in-Err-clause-left g c clean ready = stays (state g.S.Store c.args.conn.now) (state g.S.Store c.each_of_all.new.conn) (Err c.in-Err.cause) (c.in-Err.ensures.left clean ready)
 
-pub returns-in-Some-clause-same : goal.returns-in-Some-clause-same
-returns-in-Some-clause-same g c clean ready =
-    let a = state g.S.Store c.args.conn.now in
-    let b = state g.S.Store c.find_dated.new.conn in
-    let d = state g.S.Store c.card_day.new.conn in
-    let one = c.in_ok-found.ensures.survives in
-    let two = c.card_day.ensures.survives in
-    let same = c.in_ok-found.ensures.same in
-    on_ok_weaker c.card_day.result (λ h. unchanged_then a b d (same (was_clean a b d one two same clean) ready) h) (c.card_day.ensures.same clean (ready_on a b d one two same clean ready))
+pub returns-in-Ok-clause-same : goal.returns-in-Ok-clause-same
+returns-in-Ok-clause-same g c clean ready = c.in-Ok.ensures.left clean ready
 
-pub returns-in-Some-clause-left : goal.returns-in-Some-clause-left
-returns-in-Some-clause-left g c clean ready =
-    left_on (state g.S.Store c.args.conn.now) (state g.S.Store c.find_dated.new.conn) (state g.S.Store c.card_day.new.conn) c.in_ok-found.ensures.survives c.card_day.ensures.survives c.in_ok-found.ensures.same clean ready c.card_day.ensures.left
-
-pub returns-in-Some-clause-survives : goal.returns-in-Some-clause-survives
-returns-in-Some-clause-survives g c =
-    survives_on (state g.S.Store c.args.conn.now) (state g.S.Store c.find_dated.new.conn) (state g.S.Store c.card_day.new.conn) c.in_ok-found.ensures.survives c.card_day.ensures.survives c.in_ok-found.ensures.same
+pub returns-in-Err-clause-same : goal.returns-in-Err-clause-same
+returns-in-Err-clause-same g c clean ready =
+    on_ok_if c.found_at.result _ c.found_at.ensures.found (λ d h. subst (λ (e : EachFault). IsLeft (state g.S.Store c.args.conn.now) (state g.S.Store c.each_of_all.new.conn) (Err e)) h.0 (c.in-Err.ensures.left clean ready))

@@ -17,3 +17,9 @@ returns-in_err-tell_port-clause-told g c =
 
 pub returns-in-Ok-clause-told : goal.returns-in-Ok-clause-told
 returns-in-Ok-clause-told g c = c.in_ok-tell_port.ensures
+
+pub returns-in-Ok-clause-served : goal.returns-in-Ok-clause-served
+returns-in-Ok-clause-served g c clean first acts history holds = (c.in-Ok.ensures.served clean first acts history holds).0
+
+pub returns-in-Err-clause-served : goal.returns-in-Err-clause-served
+returns-in-Err-clause-served g c clean first acts history holds = (c.in-Err.ensures.served clean first acts history holds).0

@@ -10,13 +10,13 @@ returns-clause-step g c clean first acts history holds =
     let keeps = g.K.Keeper.keeps in
     let begins = g.K.Keeper.begins in
     let was = books_of c.args.house.now in
-    let books = books_of c.serve_kept-served.new.self in
+    let books = books_of c.serve_one_kept-served.new.self in
     let old = at c.args.log.now in
-    let new = at c.serve_kept-served.new.log in
+    let new = at c.serve_one_kept-served.new.log in
     let before = c.args.keeper.now in
-    let after = c.serve_kept-served.new.keeper in
-    let end = c.serve_kept-served.result in
-    let does = c.serve_kept-served.ensures in
+    let after = c.serve_one_kept-served.new.keeper in
+    let end = c.serve_one_kept-served.result in
+    let does = c.serve_one_kept-served.ensures in
     subst (λ e. GoesOnKept g.S.Store keeps begins first acts was books e old new before after) (sym c.end_answer.ensures)
     (read_or_not end.answered
     (λ read. let s = does.served clean first acts history holds read in goes_on g.S.Store keeps begins first acts was books old new before after end.kept end.logged _ _ _ s.0 s.1 does.begins)

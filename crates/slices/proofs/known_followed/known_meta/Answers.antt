@@ -23,11 +23,7 @@ returns-clause-read g c = so_told {P = λ (t : Tables) (row : MetaRow). t.meta �
     items = all.items;
     least = all.least;
     bins = all.bins;
-    lots = all.lots;
     recalls = all.recalls;
-    orders = all.orders;
-    lines = all.lines;
-    lines_at = all.lines_at;
-    followed = subst (λ (x : Followed). KnowsFollowed t x) (sym c.know_meta.ensures) (record { stock = all.followed.stock; staged = all.followed.staged; meta = there });
+    followed = subst (λ (x : Followed). KnowsFollowed t x) (sym c.know_meta.ensures) (record { lots = all.followed.lots; orders = all.followed.orders; urgents = all.followed.urgents; lines = all.followed.lines; lines_at = all.followed.lines_at; stock = all.followed.stock; staged = all.followed.staged; meta = there });
   },
 ))

@@ -2,4 +2,4 @@ use Rattle.known_reads.proofs.KnowingSteps.{known_among}
 use Rattle.slices.proofs.known_goods.seek_item.Goals as goal
 
 pub returns-clause-read : goal.returns-clause-read
-returns-clause-read g c = known_among c.seek_known.ensures.read (λ t all. all.items) (λ t all one. record { items = one; least = all.least; bins = all.bins; lots = all.lots; recalls = all.recalls; orders = all.orders; lines = all.lines; lines_at = all.lines_at; followed = all.followed })
+returns-clause-read g c = known_among c.seek_known.ensures.read (λ t all. all.items) (λ t all one. record { items = one; least = all.least; bins = all.bins; recalls = all.recalls; followed = all.followed })

@@ -2,10 +2,9 @@ use Rattle.std.proofs.Common.{◌≡◌, ℕ, List, subst, ◌∙◌}
 use Rattle.commands.specs.declared.rows.OrderRow.{OrderRow}
 use Rattle.sqlite.specs.declared.error.Error.TheVariants.{SqliteFailure}
 use Rattle.sqlite.specs.declared.error.ErrorCode.TheVariants.{OutOfMemory}
-use Rattle.slices.specs.Remembering.{KnowsRows}
 use Rattle.slices.specs.Slicing.{AreKnownOrders, AreUrgentsFor, orders_named}
 use Rattle.known_reads.proofs.ReadSteps.{has_read, fails_first, fails_later, no_room_yet}
-use Rattle.known_reads.proofs.KnowingSteps.{unasked, and_known, known_told}
+use Rattle.known_reads.proofs.KnowingSteps.{and_known, known_told}
 use Rattle.slices.proofs.slices.read_ordered.Goals as goal
 
 pub returns-in_err-named-clause-read : goal.returns-in_err-named-clause-read
@@ -22,7 +21,7 @@ returns-clause-read g c =
     let known = c.args.known.now in
     let gtins = c.args.gtins.now in
     let of_orders : c.as_slice.result.now ≡ orders_named c.args.command.now = c.as_slice.ensures.value ∙ c.in_ok-named.ensures in
-    known_told (and_known c.in_ok-orders.ensures.read (unasked (λ t. KnowsRows t c.read_known_orders.new.rows) c.in_ok-urgents.ensures.read))
+    known_told (and_known c.in_ok-orders.ensures.read c.in_ok-urgents.ensures.read)
     (λ t h. (
       subst (λ (l : List (List ℕ)). AreKnownOrders known.lines l gtins t c.in_ok-orders.orders.items c.in_ok-orders.lines.items) of_orders h.0,
       subst (λ (l : List OrderRow). AreUrgentsFor known.urgent gtins l t c.in_ok-urgents.urgents.items) c.as_slice-2.ensures.value h.1,

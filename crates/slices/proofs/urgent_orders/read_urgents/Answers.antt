@@ -2,7 +2,8 @@ use Rattle.std.proofs.Common.{◌≡◌, ℕ, List, subst, ap, ◌∙◌}
 use Rattle.sqlite.specs.declared.error.Error.TheVariants.{SqliteFailure}
 use Rattle.sqlite.specs.declared.error.ErrorCode.TheVariants.{OutOfMemory}
 use Rattle.slices.specs.Slicing.{names_among, names_at, AreUrgents}
-use Rattle.known_reads.proofs.ReadSteps.{as_told, no_room_yet}
+use Rattle.known_reads.proofs.ReadSteps.{no_room_yet}
+use Rattle.known_reads.proofs.KnowingSteps.{known_as}
 use Rattle.slices.proofs.urgent_orders.read_urgents.Goals as goal
 
 pub returns-in_err-may_be-clause-read : goal.returns-in_err-may_be-clause-read
@@ -15,4 +16,4 @@ pub returns-clause-read : goal.returns-clause-read
 returns-clause-read g c =
     let names_are : c.as_slice-2.result.now ≡ names_among (names_at c.args.known.now c.args.gtins.now) c.args.orders.now =
     c.as_slice-2.ensures.value ∙ c.in_ok-names.ensures ∙ ap (λ l. names_among l c.args.orders.now) (c.as_slice.ensures.value ∙ c.in_ok-may_be.ensures) in
-    as_told c.seek_all.ensures.read (λ t rows h. subst (λ (l : List (List ℕ)). AreUrgents l t rows.items) names_are h)
+    known_as c.seek_urgents.ensures.read (λ t rows h. subst (λ (l : List (List ℕ)). AreUrgents l t rows.items) names_are h)

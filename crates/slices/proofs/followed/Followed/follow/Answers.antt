@@ -1,5 +1,27 @@
-use Rattle.std.proofs.Common.{refl}
+use Rattle.std.proofs.Common.{List, refl, subst}
+use Rattle.std.specs.Prelude.{reverse}
+use Rattle.std.specs.Ordering.{nat_cmp}
+use Rattle.std.specs.Cmp.Lexicographic.{slice_cmp}
+use Rattle.commands.specs.declared.rows.LineRow.{LineRow}
+use Rattle.commands.specs.declared.rows.LotRow.{LotRow}
+use Rattle.commands.specs.declared.rows.OrderRow.{OrderRow}
+use Rattle.commands.specs.declared.rows.UrgentRow.{UrgentRow}
+use Rattle.slice_lists.specs.LotOrder.{lot_key as turned_lot, lot_key_cmp}
+use Rattle.slice_lists.specs.LineOrder.{turned_line, line_key_cmp}
+use Rattle.known_rows.specs.Keyed.{same_lot_row, same_order_row, same_urgent_row, same_line_row}
+use Rattle.known_rows.specs.KnownRows.{ChangesBy, with_put}
 use Rattle.slices.proofs.followed.Followed.follow.Goals as goal
 
 pub returns : goal.returns
-returns c = record { stock = c.follow_stock.ensures; staged = c.follow_staged.ensures; meta = refl }
+returns c =
+    let old = c.args.self.now in
+    record {
+      lots = subst (λ (rows : List LotRow). ChangesBy lot_key_cmp (λ (r : LotRow). turned_lot r.lot) (with_put same_lot_row) rows old.lots.rows c.put_all.new.self.rows) c.as_slice.ensures c.put_all.ensures;
+      orders = subst (λ (rows : List OrderRow). ChangesBy (slice_cmp nat_cmp) (λ (r : OrderRow). reverse r.order) (with_put same_order_row) rows old.orders.rows c.put_all-2.new.self.rows) c.as_slice-2.ensures c.put_all-2.ensures;
+      urgents = subst (λ (rows : List UrgentRow). ChangesBy (slice_cmp nat_cmp) (λ (r : UrgentRow). reverse r.order) (with_put same_urgent_row) rows old.urgents.rows c.put_all-3.new.self.rows) c.as_slice-3.ensures c.put_all-3.ensures;
+      lines = subst (λ (rows : List LineRow). ChangesBy (slice_cmp nat_cmp) (λ (r : LineRow). reverse r.order) (with_put same_line_row) rows old.lines.rows c.put_all-4.new.self.rows) c.as_slice-4.ensures c.put_all-4.ensures;
+      lines_at = subst (λ (rows : List LineRow). ChangesBy line_key_cmp (λ (r : LineRow). turned_line (r.order, r.gtin)) (with_put same_line_row) rows old.lines_at.rows c.put_all-5.new.self.rows) c.as_slice-5.ensures c.put_all-5.ensures;
+      stock = c.follow_stock.ensures;
+      staged = c.follow_staged.ensures;
+      meta = refl;
+    }

@@ -1,4 +1,3 @@
-use Rattle.std.proofs.Common.{refl}
 use Rattle.table_words.proofs.chain.Tuple2Chain.is_stored.Goals as goal
 
 pub returns : goal.returns
