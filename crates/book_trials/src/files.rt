@@ -16,8 +16,6 @@ const SECTOR: usize = 512;
 pub struct Stored {
     written: Vec<u8>,
     synced: Vec<u8>,
-    /// Its disk took the last call, and takes one more.
-    has_spare: bool,
     /// How many of its calls read bytes, and how many failed.
     reads: u64,
     refused: u64,
@@ -49,7 +47,7 @@ impl Calls {
 
 impl Calls {
     /// Each later call fails.
-    pub(crate) fn failures(self) -> Failures {
+    pub fn failures(self) -> Failures {
         Failures {
             log: Failure::stop(self.log),
             db: Failure::stop(self.db),
@@ -97,7 +95,6 @@ impl Stored {
         Stored {
             written: Vec::new(alloc),
             synced: Vec::new(alloc),
-            has_spare: true,
             reads: 0,
             refused: 0,
         }
@@ -109,7 +106,6 @@ impl Stored {
         Some(Stored {
             written: bytes,
             synced,
-            has_spare: true,
             reads: 0,
             refused: 0,
         })
@@ -119,7 +115,6 @@ impl Stored {
     pub fn of(alloc: Global, disk: Stopping) -> Option<Stored> {
         let mut disk = disk;
         let (reads, refused) = (disk.reads(), disk.refused());
-        let has_spare = disk.may_be_used() && disk.len().is_ok();
         let written = copied(alloc, disk.inner().bytes());
         disk.crash();
         let synced = copied(alloc, disk.inner().bytes());
@@ -128,7 +123,6 @@ impl Stored {
             (Some(written), Some(synced)) => Some(Stored {
                 written,
                 synced,
-                has_spare,
                 reads,
                 refused,
             }),
@@ -204,13 +198,13 @@ impl Pair {
     }
 
     /// The files that the disks hold.
-    pub(crate) fn of(alloc: Global, files: Files<Stopping>) -> Option<Pair> {
+    pub fn of(alloc: Global, files: Files<Stopping>) -> Option<Pair> {
         let Files { log, db } = files;
         Pair::both(Stored::of(alloc, log), Stored::of(alloc, db))
     }
 
     /// Disks that hold the files, and of which these calls fail.
-    pub(crate) fn disks(&self, alloc: Global, failures: Failures) -> Option<Files<Stopping>> {
+    pub fn disks(&self, alloc: Global, failures: Failures) -> Option<Files<Stopping>> {
         match (
             self.log.failing(alloc, failures.log),
             self.db.failing(alloc, failures.db),
@@ -223,11 +217,6 @@ impl Pair {
     /// The files as a stop leaves them.
     pub fn left(&self, alloc: Global, log: Loss, db: Loss) -> Option<Pair> {
         Pair::both(self.log.left(alloc, log), self.db.left(alloc, db))
-    }
-
-    /// Whether both disks took the last call, and take one more.
-    pub fn have_spare(&self) -> bool {
-        self.log.has_spare && self.db.has_spare
     }
 
     /// Whether the database has the same bytes. Its log is begun anew at each opening.

@@ -1,51 +1,24 @@
 //! Lines of the program over books in memory: their words, what is printed, what is told, and the exit status.
 
 use crate::ends::Receiver;
-use books_schema::ready_connection::Orderly;
+use books_schema::ready_connection::{Leftover, Orderly};
 use command_line::{BooksAt, Fault, FilesAt, Work, run};
 use line_work::{do_work, listen};
 use sqlite::{Alter, Connection};
 use sqlite_disk::Memory;
-use std::cell::Cell;
+use std::convert::AsStr;
 use std::io::Write;
 
-/// No disk for the acts.
-pub fn no_acts() -> Option<Memory> {
-    None
-}
-
 /// The books over one connection, in whatever file a line says that they are, and the files that the line finds.
+#[derive(Drop)]
 struct OverOne<'a, S: Alter, F: FilesAt> {
     host: &'a HostRuntime,
     files: &'a F,
-    conn: Cell<Option<Connection<S>>>,
+    conn: Connection<S>,
 }
 
-impl<S: Orderly + Drop, F: FilesAt> OverOne<'_, S, F> {
-    fn worked<W: Write, L: Write>(
-        &self,
-        work: &Work<'_>,
-        out: &mut W,
-        log: &mut L,
-    ) -> Result<(), Fault> {
-        let listener = listen(self.host, work)?;
-        let Some(conn) = self.conn.replace(None) else {
-            return Err(Fault::Io);
-        };
-        let at = listener.as_ref();
-        let mut acts = no_acts();
-        match do_work(self.host, self.files, at, &mut acts, conn, work, out, log) {
-            Ok((conn, end)) => {
-                drop(self.conn.replace(Some(conn)));
-                end
-            }
-            Err((_left, fault)) => Err(fault),
-        }
-    }
-}
-
-impl<S: Orderly + Drop, F: FilesAt> BooksAt for &OverOne<'_, S, F> {
-    type Left = ();
+impl<S: Orderly + Drop, F: FilesAt> BooksAt for OverOne<'_, S, F> {
+    type Left = Leftover<S>;
 
     ghost ends = { λ _ _ _ _ _ _ _ _ _. Unit {0} };
 
@@ -55,44 +28,46 @@ impl<S: Orderly + Drop, F: FilesAt> BooksAt for &OverOne<'_, S, F> {
         work: &Work<'_>,
         out: &mut W,
         log: &mut L,
-    ) -> ((), Result<(), Fault>) {
-        ((), self.worked(work, out, log))
+    ) -> (Leftover<S>, Result<(), Fault>) {
+        let OverOne { host, files, conn } = self;
+        let listener = match listen(host, work) {
+            Ok(listener) => listener,
+            Err(_) => return (Leftover::Connection(conn), Err(Fault::Io)),
+        };
+        let mut acts: Option<Memory> = None;
+        let at = listener.as_ref();
+        match do_work(host, files, at, &mut acts, conn, work, out, log) {
+            Ok((conn, end)) => (Leftover::Connection(conn), end),
+            Err((left, fault)) => (left, Err(fault)),
+        }
     }
 }
 
-/// A line: its words, its exit status, and what is printed and told.
-#[derive(Clone, Copy)]
-pub struct Line<'a> {
-    pub words: &'a [&'a str],
+/// What a line came to.
+#[derive(Drop)]
+pub struct Came {
     pub status: u8,
-    pub printed: &'a str,
-    pub told: &'a str,
+    pub printed: Vec<u8>,
+    pub told: Vec<u8>,
 }
 
-/// Runs the line over the connection, and prints to this. Whether it ends, prints and tells so, and the connection, if it
-/// comes back.
-pub fn line_run<S: Orderly + Drop, F: FilesAt>(
+/// Runs the line over the connection, and prints to this. What is left of the connection, where the line named books.
+pub fn run_line<S: Orderly + Drop, F: FilesAt, A: AsStr>(
     host: &HostRuntime,
     files: &F,
     conn: Connection<S>,
-    line: &Line<'_>,
+    words: &[A],
     paper: Receiver,
-) -> (bool, Option<Connection<S>>) {
-    let books = OverOne {
-        host,
-        files,
-        conn: Cell::new(Some(conn)),
-    };
+) -> (Option<Leftover<S>>, Came) {
+    let books = OverOne { host, files, conn };
     let mut paper = paper;
     let mut told: Vec<u8> = Vec::new(host.alloc());
-    let (_, status) = run(host.alloc(), &books, line.words, &mut paper, &mut told);
-    let is_so = status == line.status
-        && paper.taken.as_slice() == line.printed.as_bytes()
-        && told.as_slice() == line.told.as_bytes();
-    let OverOne {
-        conn,
-        host: _,
-        files: _,
-    } = books;
-    (is_so, conn.into_inner())
+    let (left, status) = run(host.alloc(), books, words, &mut paper, &mut told);
+    let Receiver { taken, .. } = paper;
+    let came = Came {
+        status,
+        printed: taken,
+        told,
+    };
+    (left, came)
 }

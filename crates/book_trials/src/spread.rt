@@ -46,14 +46,6 @@ pub fn of_numbers(alloc: Global, written: &str, between: &str, count: u64) -> Op
     Some(all)
 }
 
-/// Whether the house answers so.
-pub fn answers_spread<S: Alter>(alloc: Global, house: &mut House<S>, row: &Spread) -> bool {
-    match line_of(alloc, row) {
-        Some(line) => answers_line(alloc, house, line.as_str()),
-        None => false,
-    }
-}
-
 /// The line of the exchange.
 pub fn line_of(alloc: Global, row: &Spread) -> Option<String> {
     let all = of_numbers(alloc, row.written, row.between, row.count)?;

@@ -1,34 +1,18 @@
-//! The tests of what commands are made of, of values, labels, plans, commands, spellings and texts, of the program's
-//! lines, and of the orders that may be open.
-//!
-//! They are a crate of their own, since the tests of a crate are proved together with all of that crate once more.
+//! The tests of what needs no connection: goods-in files and requests of others, a label and days, the lines of a card and of a
+//! log, what is told of a line's end, and how much is kept of rows that are known.
 #![tactic(auto)]
 
 #[cfg(test)]
-mod commands_tests;
+mod asked;
 #[cfg(test)]
-mod file_tests;
+mod cards;
 #[cfg(test)]
-mod handed_tests;
+mod ends;
 #[cfg(test)]
-mod hostile_files;
+mod files;
 #[cfg(test)]
-mod hostile_labels;
+mod known;
 #[cfg(test)]
-mod label_tests;
+mod labels;
 #[cfg(test)]
-mod lines_tests;
-#[cfg(test)]
-mod open_lines_tests;
-#[cfg(test)]
-mod plain;
-#[cfg(test)]
-mod plan_tests;
-#[cfg(test)]
-mod spellings_tests;
-#[cfg(test)]
-mod text_samples;
-#[cfg(test)]
-mod texts_tests;
-#[cfg(test)]
-mod values_tests;
+mod logs;
