@@ -5,9 +5,13 @@ an older copy, or of none, and FILE by `lotd apply`: every row is that of the bo
 them. What had no answer is asked again, as a scanner does. In the end FILE is the history, every row and every answer is that
 of an undisturbed run over the same requests, and FILE alone makes such books.
 Then files that cannot be used: on a disk that is full (as root), a second name, a link to nothing, a folder, a name without a
-folder, a file that another server has, that of other books, of newer ones, with a line changed. And such as are made whole:
-none, one that is cut off, one with a part of a line behind the last. And `lotd import --acts FILE`.
-Needs the Rattle kit, and takes some minutes. ACTS (1500), EACH (40, a kill in so many requests) and SEED (1) can be set. With
+folder, a file that another server has, that of other books, of newer ones, a small file of another kind, with a line changed.
+And such as are made whole: none, one that is cut off, one with a part of a line behind the last. And states that a loss of
+power may leave: FILE as it was before an act, and of the write for it, which was not synced, any of its sectors. Each start
+makes it whole. FILE emptied while it is served ends the server at its next act. Books that opened a day two days after they
+began are served twice beside their FILE. And `lotd import --acts FILE`.
+Needs the Rattle kit, and takes some minutes. ACTS (1500), EACH (40, a kill in so many requests), TORN (2000, states) and SEED
+(1) can be set. With
 `--big` there are RECEIPTS (20000) in their place: what a server takes with FILE and without, and a start.
 Exit status 0 only if all was as it must be.
 """
@@ -34,6 +38,7 @@ chance = random.Random(seed)
 FIRST = day_number("2026-05-04")
 LINE_MAX = 8_192
 PAGE = 4_096
+SECTOR = 512
 
 
 def fails(what, expected, got):
@@ -401,7 +406,11 @@ def wrong_lines(db, copies):
         with_lines("a line left out", lines[:at] + lines[at + 1:], "differs act %d" % (at + 1))
         with_lines("a line doubled", lines[:at + 1] + lines[at:], "differs act %d" % (at + 2))
     with_lines("a line more", lines + [b"%d" % (count + 1) + lines[-1][len(b"%d" % count):]], "lacks act %d" % (count + 1))
-    with_lines("a long rest", lines + [bytes(LINE_MAX)], "lacks act %d" % (count + 1))
+    with_lines("a long rest", lines + [bytes(LINE_MAX)], "differs act %d" % (count + 1))
+    for rest in (lines[-1][:-1], b"x" * (LINE_MAX - 1), b"\n"):
+        with_lines("no part of a line of the next act", lines + [rest], "differs act %d" % (count + 1))
+    for other in (b'{"port": 8090}', b"token", b"[Unit]\nDescription=stock\n"):
+        is_refused("a small file of another kind", db, write(file, other), "differs act 1")
     for copy in chance.sample(copies, min(3, len(copies))):
         known = len(lines_of(history(copy)))
         if known < count:
@@ -410,7 +419,7 @@ def wrong_lines(db, copies):
     last = len(lines[-1])
     for cut in [0, 1, 2, last - 1, last, last + 1] + [chance.randrange(len(text)) for _ in range(6)]:
         is_made_whole("a file cut off", db, file, text[:len(text) - cut])
-    for rest in (b"1", lines[-1][:-1], bytes(100), b"x" * (LINE_MAX - 1)):
+    for rest in (b"%d" % (count + 1), b"%d\t2026-05-0" % (count + 1), bytes(100), b"%d\t2026" % (count + 1) + bytes(40)):
         is_made_whole("a part of a line behind the last", db, file, text + rest)
     is_made_whole("an empty file", db, file, b"")
     removed(file)
@@ -422,6 +431,121 @@ def wrong_lines(db, copies):
         beside.ends()
     is_made_whole("a file that went", db, file, b"")
     print("  files that are cut off, have a part of a line more, are empty or gone: made whole", flush=True)
+
+
+# What a loss of power leaves
+
+def torn(text, begin, end):
+    """The file as it was before these bytes were written to it, and of the write any sectors, in any length between."""
+    size = end if chance.random() < 0.5 else chance.randrange(begin, end + 1)
+    left = bytearray(text[:begin].ljust(size, b"\0"))
+    kept = chance.random()
+    for at in range(begin // SECTOR * SECTOR, size, SECTOR):
+        low, high = max(at, begin), min(at + SECTOR, size)
+        if chance.random() < kept:
+            left[low:high] = text[low:high]
+    return bytes(left)
+
+
+def writes():
+    """Books, and what was written to their file: a copy of the books after each write, and where it began and ended."""
+    db, file, done = begun("power"), removed(path_of("power.acts")), []
+    with serving(db, file) as beside:
+        for number, text in enumerate(requests()):
+            before = os.path.getsize(file)
+            if server.ask(port, text)[0] != 200:
+                fails("an act", 200, text)
+            done.append((copied(db, path_of("power-%d.db" % number)), before, os.path.getsize(file)))
+    return file, done
+
+
+def requests():
+    """Acts of one line, orders of two hundred, and goods-in files of up to a thousand rows."""
+    items = [acts.gtin_of(number) for number in range(200)]
+    yield server.post("/bins", '{"key":"B-1","bin":"A-1","kind":"STORE"}')
+    for number, gtin in enumerate(items):
+        yield server.post("/items", '{"key":"I-%d","gtin":"%s","name":"Item %d"}' % (number, gtin, number))
+    head = "delivery,line,gtin,lot,expiry,bin,qty\n"
+    for number, rows in enumerate((1, 7, 60, 300, 1_000, 1_000)):
+        body = "".join("F-%d,%d,%s,L%d,261130,A-1,24\n" % (number, row + 1, items[row % 200], number) for row in range(rows))
+        yield server.post("/goodsin", head + body)
+        lines = ",".join('{"gtin":"%s","qty":%d}' % (gtin, 1 + number) for gtin in items)
+        yield server.post("/orders", '{"key":"O-%d","order":"O-%d","customer":"Corner Shop","lines":[%s]}' % (number, number, lines))
+
+
+def power_is_lost(count):
+    file, done = writes()
+    text = read(file)
+    broken = 0
+    for _ in range(count):
+        db, begin, end = chance.choice(done[-20:] if chance.random() < 0.7 else done)
+        state = torn(text, begin, end)
+        broken += not text.startswith(state)
+        write(file, state)
+        with serving(db, file, 1) as beside:
+            if read(file) != text[:end]:
+                fails("a loss of power", "%d bytes of lines" % end, read(file)[begin - 40:begin + 200])
+            server.ask(port, server.get("/orders/NONE"))
+            beside.ends()
+    print("  %d states that a loss of power may leave, %d of them no beginning of the history: each start made the file whole"
+          % (count, broken), flush=True)
+
+
+def emptied():
+    """A file that is emptied under the server ends it at the next act, which stands and has no answer."""
+    db, file = begun("emptied"), removed(path_of("emptied.acts"))
+    texts = [server.post("/bins", '{"key":"K-%d","bin":"A-%d","kind":"STORE"}' % (number, number)) for number in (1, 2)]
+    with serving(db, file) as beside:
+        server.ask(port, texts[0])
+        write(file, b"")
+        if (answer := server.ask(port, texts[1])) is not None:
+            fails("a file that was emptied", "no answer", answer)
+        status, told = beside.process.wait(timeout=60), beside.process.stderr.read()
+        if (status, told) != (1, b"lotd: acts\n"):
+            fails("a file that was emptied", (1, b"lotd: acts\n"), (status, told))
+    with serving(db, file, 1) as beside:
+        is_history("a file that was emptied", db, file)
+        if (answer := server.ask(port, texts[1])) != (200, '{"act":2}'):
+            fails("asked again", '{"act":2}', answer)
+        beside.ends()
+    print("  a file that is emptied while it is served: the server ends, and the next start makes it whole", flush=True)
+
+
+def opened_on_monday():
+    """Books that were made on a Friday and opened on Monday before anything came, served twice beside their file."""
+    db, file = begun("friday", "2026-05-01"), removed(path_of("friday.acts"))
+    with serving(db, file, 2) as beside:
+        server.ask(port, server.post("/days", '{"key":"K-1","day":"2026-05-04"}'))
+        server.ask(port, server.post("/bins", '{"key":"K-2","bin":"A-1","kind":"STORE"}'))
+        beside.ends()
+    text = read(file)
+    for _ in range(2):
+        with serving(db, file, 1) as beside:
+            if read(file) != text:
+                fails("books opened on Monday", text, read(file))
+            server.ask(port, server.get("/orders/NONE"))
+            beside.ends()
+    print("  books made on a Friday and opened on Monday: served again beside their file", flush=True)
+
+
+def told_to_nobody():
+    """With standard error closed nothing stands behind an answer. The server ends at its first line of the log."""
+    db, file = begun("closed"), removed(path_of("closed.acts"))
+    line = [lotd, "serve", "--db", db, "--port", str(port), "--max", "3", "--acts", file, "--log"]
+    process = subprocess.Popen(["sh", "-c", 'exec "$0" "$@" 0<&- 2>&-'] + line, stdout=subprocess.PIPE)
+    process.stdout.readline()
+    for number in range(3):
+        text = server.post("/bins", '{"key":"K-%d","bin":"A-%d","kind":"STORE"}' % (number, number))
+        try:
+            with server.asked(port, text) as peer:
+                told = server.bytes_of(peer)
+        except ConnectionError:
+            break
+        if told and parted(told) != (200, '{"act":%d}' % (number + 1)):
+            fails("standard error closed", "an answer alone", told)
+    process.wait(timeout=60)
+    process.stdout.close()
+    print("  standard error closed, with a log: nothing stands behind an answer", flush=True)
 
 
 def an_import(file):
@@ -565,4 +689,8 @@ else:
     wrong_lines(stock, older)
     an_import(path_of("elsewhere/import.acts"))
     a_full_disk()
+    emptied()
+    opened_on_monday()
+    told_to_nobody()
+    power_is_lost(server.number("TORN", 2_000))
     print("kept: no act that was answered was lost with the books, and each file that cannot be used was told")

@@ -1,7 +1,10 @@
 mod Appended
-mod TextParts
-pub mod Walk
+mod Lines
+mod Numbers
 mod Read
+mod TextParts
+pub mod Same
 pub mod Opens
+mod Chunks
+mod Few
 pub mod Survive
-mod Later

@@ -1,37 +1,59 @@
 -- What was read of a file.
-use Rattle.std.proofs.Common.{◌≡◌, ◌≢◌, ℕ, ◌+◌, ◌<◌, Bool, true, false, not, List, ◌++◌, append-nil, length, drop, refl, sym, ap, subst, ◌∙◌, arith, Contains, IsTrue}
-use Rattle.std.specs.Prelude.{◌==◌}
-use Rattle.std.specs.List.{IsAnyAnswer}
-use Rattle.std.proofs.lemmas.Bool.Decides.{Decides-eqb}
+use Rattle.std.proofs.Common.{◌≡◌, ℕ, ◌+◌, ◌-◌, ◌<◌, ◌≤◌, List, ◌++◌, append-nil, append_assoc, length, length-append, length-drop, take, take-append-drop, drop, inl, inr, sym, ap, subst, ◌∙◌, arith}
+use Rattle.std.specs.Prelude.{min}
+use Rattle.std.proofs.Math.Seq.{take-append_seam}
+use Rattle.std.proofs.lemmas.Bool.{cases_lt}
 use Rattle.std.proofs.lemmas.List.{drop_all, ext_get_or}
-use Rattle.std.proofs.lemmas.List.Elements.{contains_decides, Decides-contains, All-contains, All-contains_itself, All-weaker}
+use Rattle.std.proofs.lemmas.List.Prefix.{at_from_reads, at_reads}
 use Rattle.sqlite_disk.specs.Disk.{Holds}
-use Rattle.acts_files.specs.Walked.{ReadsAsNoAct}
-use Rattle.acts_files.proofs.Walk.{stand}
+use Rattle.act_lines.specs.Reading.{Bears}
+use Rattle.acts_files.specs.Torn.{Begins, IsPartOf}
+
+-- bytes that a file has at a place are those behind it
+pub stand : (c bytes : List ℕ) (at : ℕ) → Holds c at bytes → drop at c ≡ bytes ++ drop (at + length bytes) c
+stand c bytes at h = at_from_reads 0 c bytes at h.within h.each
+
+pub stand_back : (c bytes more : List ℕ) (at : ℕ) → at ≤ length c → drop at c ≡ bytes ++ more → Holds c at bytes
+stand_back c bytes more at low is =
+    let long = ap length is ∙ length-append bytes more in
+    record { within = omega (arith, low, long, length-drop at c); each = at_reads 0 c bytes at more is }
 
 -- where other bytes were read, these do not stand there
-pub other : (c found bytes : List ℕ) (at : ℕ) → length found ≡ length bytes → (0 < length found → Holds c at found) → ¬ (found ≡ bytes) → ¬ Holds c at bytes
+pub other : (c found bytes : List ℕ) (at : ℕ) → length found ≡ length bytes → Holds c at found → ¬ (found ≡ bytes) → ¬ Holds c at bytes
 other c found bytes at long read unlike holds =
-    unlike (ext_get_or 0 found bytes long (λ i low. sym ((read (omega (arith, low))).each i low) ∙ holds.each i (omega (arith, low, long))))
+    unlike (ext_get_or 0 found bytes long (λ i low. sym (read.each i low) ∙ holds.each i (omega (arith, low, long))))
 
 -- all that stands behind a place
 pub behind : (c tail : List ℕ) (at : ℕ) → at + length tail ≡ length c → Holds c at tail → drop at c ≡ tail
 behind c tail at whole holds = stand c tail at holds ∙ ap (λ l. tail ++ l) (drop_all (at + length tail) c (omega (arith, whole))) ∙ append-nil tail
 
--- bytes read as no act where no line feed is found among them
-pub reads_iff : (bytes : List ℕ) (found : Bool) → IsAnyAnswer (λ y t. (y == 10) ≡ t) bytes found → length bytes < 8_192 → (IsTrue (not found) → ReadsAsNoAct bytes) × (ReadsAsNoAct bytes → IsTrue (not found))
-reads_iff bytes found any short = (to found refl, from found refl)
-  where
-    told : (found ≡ true → Contains bytes 10) × (Contains bytes 10 → found ≡ true)
-    told = Decides-contains bytes 10 found (contains_decides (λ a b. a == b) Decides-eqb bytes 10 found any)
+-- what begins with a number goes on with it
+pub bears_more : (text head rest : List ℕ) → Begins head rest → Bears text head → Bears text rest
+bears_more text head rest more bears = (bears.0 ++ more.0, more.1 ∙ ap (λ l. l ++ more.0) bears.1 ∙ append_assoc text _ more.0)
 
-    to : (r : Bool) → found ≡ r → IsTrue (not r) → ReadsAsNoAct bytes
-    to true is none = let both : false ≡ true = none in cc
-    to false is none = record {
-      part = All-weaker (Contains bytes) (λ b. b ≢ 10) (λ y has e. let hit : found ≡ true = told.1 (subst (Contains bytes) e has) in let both : true ≡ false = sym hit ∙ is in cc) bytes (All-contains_itself bytes);
-      short = short;
-    }
+-- The first bytes behind a place, as many as a line may have at most, or all that there are.
+module _ (n : ℕ) (c head : List ℕ) (at size : ℕ) (whole : size ≡ length c) (low : at ≤ size) (long : length head ≡ min (size - at) 8_192) (holds : Holds c at head) where
+  pub head_begins : Begins head (drop at c)
+  head_begins = (drop (at + length head) c, stand c head at holds)
 
-    from : (r : Bool) → found ≡ r → ReadsAsNoAct bytes → IsTrue (not r)
-    from false is reads = refl
-    from true is reads = absurd (All-contains (λ b. b ≢ 10) bytes 10 reads.part (told.0 is) refl)
+  all_of_it : length head < 8_192 → drop at c ≡ head
+  all_of_it short = behind c head at (omega (arith, short, long, low, whole)) holds
+
+  pub part_behind : IsPartOf n head → IsPartOf n (drop at c)
+  part_behind part = subst (IsPartOf n) (sym (all_of_it part.short)) part
+
+  pub no_part_behind : ¬ IsPartOf n head → ¬ IsPartOf n (drop at c)
+  no_part_behind none part =
+      let behind_long = length-drop at c in
+      let short = part.short in
+      none (subst (IsPartOf n) (all_of_it (omega (arith, behind_long, short, long, low, whole))) part)
+
+  pub head_taken : head ≡ take 8_192 (drop at c)
+  head_taken = elim (cases_lt (length head) 8_192) [
+    | inl short ↦
+        let all = drop_all 8_192 head (omega (arith, short)) in
+        sym (ap (take 8_192) (all_of_it short) ∙ sym (append-nil (take 8_192 head)) ∙ ap (λ l. take 8_192 head ++ l) (sym all) ∙ take-append-drop 8_192 head)
+    | inr full ↦
+        let is : length head ≡ 8_192 = omega (arith, full, long) in
+        sym (ap (λ k. take k (drop at c)) (sym is) ∙ ap (take (length head)) (stand c head at holds) ∙ take-append_seam head (drop (at + length head) c))
+  ]

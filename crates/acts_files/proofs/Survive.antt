@@ -1,7 +1,8 @@
 -- What is committed where nothing is.
-use Rattle.std.proofs.Common.{◌≡◌, ℕ, List, length, sym, ap, arith}
+use Rattle.std.proofs.Common.{◌≡◌, ℕ, List, length, inl, refl, sym, ap, arith}
 use Rattle.std.specs.Prelude.{ℤ, Result, Ok, Err}
 use Rattle.sqlite_trees.specs.declared.store.Store.{Ghosts}
+use Rattle.sqlite_trees.specs.Tree.{Trees}
 use Rattle.sqlite.specs.Held.{state}
 use Rattle.sqlite.specs.State.{State, HasCleanDisk, Survives}
 use Rattle.sqlite.proofs.StateLemmas.{survives_then, survives_weaker}
@@ -16,6 +17,17 @@ use Rattle.store.specs.Queries.{IsShown}
 use Rattle.store.specs.declared.fault.Fault.{Fault}
 use Rattle.store.specs.declared.fault.Fault.TheVariants.{Refused, Store, Foreign}
 use Rattle.acts_files.specs.KeptActs.{NoHistory}
+
+-- nothing was done
+pub survives_itself : (s : State) (P : Trees → Type 0) → Survives s s P
+survives_itself s P = record {
+  clean = omega arith;
+  counts = omega arith;
+  limit = refl;
+  closes = λ clean is. inl is;
+  shield = λ h. h;
+  crash = λ clean db left. inl left;
+}
 
 module _ {S : Type 0} (g : Ghosts S) where
   pub none_of_books : (old : Connected S) (a b : State) → Survives a b (NoBooks (state g old.conn)) → Survives a b (NoHistory g old)

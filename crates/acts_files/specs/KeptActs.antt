@@ -1,6 +1,6 @@
 -- A file that keeps the acts of books. `g` is what the file's type means by what a read returns and by what a stop may leave.
-use Rattle.std.specs.Prelude.{◌≡◌, ℕ, ℤ, List, ◌++◌, length, IsTrue, Vec}
-use Rattle.std.proofs.Common.{Global}
+use Rattle.std.specs.Prelude.{◌≡◌, ◌⊎◌, ◌≤◌, ℕ, ℤ, List, ◌++◌, length, IsTrue}
+use Rattle.sqlite_disk.specs.Disk.{MoreFaults}
 use Rattle.sqlite_disk.specs.declared.Disk.{Ghosts}
 use Rattle.sqlite_trees.specs.declared.store.Store.{Ghosts as StoreGhosts}
 use Rattle.sqlite_trees.specs.Tree.{Trees}
@@ -9,21 +9,14 @@ use Rattle.machine.specs.Once.{IsHistory}
 use Rattle.machine.specs.Standing.{today}
 use Rattle.histories.specs.Text.{history_text}
 use Rattle.histories.specs.Newer.{newer_text}
-use Rattle.histories.specs.declared.lines.HistoryLines.{HistoryLines}
 use Rattle.store.specs.Connected.{Connected}
 use Rattle.store.specs.Books.{HoldsBooks}
-use Rattle.acts_files.specs.Kept.{HasText, BeginsWith}
+use Rattle.acts_files.specs.Kept.{HasText, ShowsText, BeginsWith, HasAtMost}
 use Rattle.acts_files.specs.declared.acts_file.ActsFile.{ActsFile}
 
 -- the text of all acts is that of the older ones and then that of the newer
 abbrev pub TextGoesOn : Type 0
 TextGoesOn = (begun : ℤ) (newer older : List Act) → history_text begun (newer ++ older) ≡ history_text begun older ++ newer_text begun newer older
-
--- the lines of the newer acts, the number of the last one and the business day after it
-pub record AreLinesOf (begun : ℤ) (newer older : List Act) (lines : HistoryLines (Vec ℕ Global)) : Type 0 where
-  pub text : lines.out.items ≡ newer_text begun newer older
-  pub done : lines.done ≡ length (newer ++ older)
-  pub day : lines.day ≡ today begun (newer ++ older)
 
 -- the disk under the file has returned what was written
 abbrev pub IsCleanFile : {D : Type 0} → Ghosts D → ActsFile D → Type 0
@@ -36,9 +29,45 @@ pub record KeepsActs {D : Type 0} (g : Ghosts D) (begun : ℤ) (acts : List Act)
   pub day : file.day ≡ today begun acts
   pub text : IsCleanFile g file → HasText g (history_text begun acts) file.len file.disk
 
+-- it has the lines of these acts first, up to the place that was reached
+pub record HasPassed {D : Type 0} (g : Ghosts D) (begun : ℤ) (acts : List Act) (file : ActsFile D) : Type 0 where
+  pub done : file.done ≡ length acts
+  pub day : file.day ≡ today begun acts
+  pub text : IsCleanFile g file → ShowsText g (history_text begun acts) file.len file.disk
+
 -- at each moment, whatever a stop leaves of it begins with the text of the acts
 abbrev pub BeginsWithActs : {D : Type 0} → Ghosts D → ℤ → List Act → ActsFile D → Type 0
 BeginsWithActs g begun acts file = IsCleanFile g file → BeginsWith g (history_text begun acts) file.disk
+
+-- whatever a stop leaves of the file begins with this text, which is no longer than what its lines have
+abbrev pub HoldsText : {D : Type 0} → Ghosts D → ActsFile D → List ℕ → Type 0
+HoldsText g file text = BeginsWith g text file.disk × (length text ≤ file.len)
+
+-- no text that it holds is lost, whatever it is
+pub record KeepsTexts {D : Type 0} (g : Ghosts D) (old new : ActsFile D) : Type 0 where
+  pub clean : IsCleanFile g new → IsCleanFile g old
+  pub kept : (text : List ℕ) → HoldsText g old text → HoldsText g new text
+
+-- the lines of some of the newer acts were added
+pub record KeepsNext {D : Type 0} (g : Ghosts D) (begun : ℤ) (newer older : List Act) (file : ActsFile D) : Type 0 where
+  pub later : List Act
+  pub added : List Act
+  pub parts : newer ≡ later ++ added
+  pub keeps : KeepsActs g begun (added ++ older) file
+
+-- Lines of the next acts could not be added. Those of some of them may have been, and whatever a stop leaves of the file is the lines
+-- of these acts and at most as many bytes as those of the next ones, a thousand at most, have. What it reads as is just these lines, unless
+-- a call on it failed.
+pub record LacksNext {D : Type 0} (g : Ghosts D) (begun : ℤ) (newer older : List Act) (old new : ActsFile D) : Type 0 where
+  pub added : List Act
+  pub later : List Act
+  pub parts : newer ≡ later ++ added
+  pub next : List Act
+  pub beyond : List Act
+  pub split : later ≡ beyond ++ next
+  pub few : length next ≤ 1_000
+  pub left : IsCleanFile g new → HasAtMost g (history_text begun (added ++ older)) (length (newer_text begun next (added ++ older))) new.disk
+  pub why : MoreFaults (g.faults old.disk) (g.faults new.disk) ⊎ (IsCleanFile g new → HasText g (history_text begun (added ++ older)) new.len new.disk)
 
 -- the acts are the oldest of all
 abbrev pub AreOldest : (older all : List Act) → Type 0

@@ -1,4 +1,6 @@
 pub mod Kept
+pub mod Torn
+pub mod Newer
+pub mod Faults
 pub mod KeptActs
-pub mod Walked
 pub mod Opened

@@ -9,11 +9,13 @@ use std::io;
 pub enum ActsFault {
     /// The file cannot be read, written or synced. It is to be opened again.
     File,
-    /// Memory or the disk of the books did not suffice, or their rows are not in the order of the acts.
+    /// Memory or the disk of the books did not suffice.
     Store,
-    /// The file has another line in the place of that of this act, which the books have.
+    /// The rows of the books are not those of the acts in turn, or spell no command.
+    Foreign,
+    /// The file has something else in the place of the line of this act.
     Differs(u64),
-    /// The file has a line behind those of all acts: the books have no act of this number.
+    /// Behind the lines of all acts the file has one of this number: the books have no act of it.
     Lacks(u64),
 }
 
@@ -30,12 +32,15 @@ impl From<AllocError> for ActsFault {
 
 impl From<HistoryFault> for ActsFault {
     ghost use Rattle.std.specs.Prelude.{◌≡◌};
-    ghost use Rattle.acts_files.specs.declared.fault.ActsFault.TheVariants.{Store};
+    ghost use Rattle.acts_files.specs.Faults.{fault_of_history};
 
-    ghost from_gives = { λ _ fault. fault ≡ Store };
+    ghost from_gives = { λ cause fault. fault ≡ fault_of_history cause };
 
-    fn from(_: HistoryFault) -> ActsFault {
-        ActsFault::Store
+    fn from(cause: HistoryFault) -> ActsFault {
+        match cause {
+            HistoryFault::Foreign => ActsFault::Foreign,
+            HistoryFault::Store | HistoryFault::Output => ActsFault::Store,
+        }
     }
 }
 

@@ -4,13 +4,15 @@
 mod acts_file;
 mod beside;
 mod fault;
+mod few_lines;
 mod keeping;
 pub mod laws;
 mod newer;
 mod opening;
+mod torn;
 
 pub use acts_file::ActsFile;
-pub use beside::LinesBeside;
 pub use fault::ActsFault;
+pub use few_lines::FewLines;
 pub use keeping::{append, cut_to};
 pub use opening::{NotOpened, open_beside};

@@ -6,6 +6,7 @@ use crate::filed::{are_filed, day_is_given, is_printed};
 use crate::memory::is_kept;
 use crate::opened::{Case, are_opened, bytes_are_changed, is_cut_at_each_byte, tails_are_long};
 use crate::stops::{Start, stops};
+use crate::torn::{a_thousand_rows_are_kept, many_are_added, writes_are_torn};
 use acts_files::{ActsFault, NotOpened, open_beside};
 use label::{BusinessDay, Day};
 use sqlite::{Alter, Connection};
@@ -32,6 +33,12 @@ pub(crate) enum Trial<'a> {
     DayGiven,
     /// The disk of the file stops.
     Stops(&'a Start),
+    /// Writes of which a stop left a part.
+    Torn,
+    /// More acts than are added at once.
+    Many,
+    /// A goods-in file of a thousand rows.
+    Thousand,
     /// There may be no memory.
     Memory(&'a HostRuntime),
 }
@@ -90,6 +97,9 @@ fn tried<S: Alter + Drop>(rt: &impl Abort, alloc: Global, conn: Connection<S>, t
         Trial::Printed => is_printed(rt, alloc, books),
         Trial::DayGiven => day_is_given(rt, alloc, &mut books),
         Trial::Stops(start) => stops(rt, alloc, &mut books, start),
+        Trial::Torn => writes_are_torn(rt, alloc, &mut books),
+        Trial::Many => many_are_added(rt, alloc, &mut books),
+        Trial::Thousand => a_thousand_rows_are_kept(rt, alloc, &mut books),
         Trial::Memory(host) => is_kept(host, rt, &mut books),
     }
 }

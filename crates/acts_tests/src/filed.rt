@@ -16,8 +16,8 @@ use store::{Books, RowFault, Tally};
 /// How many acts the books have before.
 const HAD: usize = 5;
 
-/// How many calls the disk takes: the length, a cut and a sync, and a write and a sync for the lines at the start and for those
-/// of the file.
+/// How many calls the disk takes: the length, a read, a write and a sync as the file is opened, and the length, a write and a
+/// sync for the rows of the goods-in file.
 const CALLS: u64 = 7;
 
 // A goods-in file, as lines of its rows: two of them acted before, and one stands twice.

@@ -18,3 +18,5 @@ mod memory;
 mod opened;
 #[cfg(test)]
 mod stops;
+#[cfg(test)]
+mod torn;

@@ -38,7 +38,7 @@ const BRING_UP: Opening = Opening {
 fn told_by(fault: ActsFault) -> Told {
     match fault {
         ActsFault::Store | ActsFault::File => Told::NoMemory,
-        ActsFault::Differs(_) | ActsFault::Lacks(_) => Told::Other,
+        ActsFault::Foreign | ActsFault::Differs(_) | ActsFault::Lacks(_) => Told::Other,
     }
 }
 

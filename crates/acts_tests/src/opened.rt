@@ -24,7 +24,7 @@ pub(crate) struct Case {
 }
 
 // What a stop leaves: the file then has the lines of all acts.
-static TORN: [Case; 12] = [
+static TORN: [Case; 11] = [
     Case {
         acts: 0,
         lines: 0,
@@ -50,13 +50,6 @@ static TORN: [Case; 12] = [
         acts: ALL,
         lines: 0,
         bytes: b"",
-        behind: (0, 0),
-        fault: None,
-    },
-    Case {
-        acts: ALL,
-        lines: 0,
-        bytes: b"1\t2026-05-04\tK/OTHER\tITEM",
         behind: (0, 0),
         fault: None,
     },
@@ -98,21 +91,21 @@ static TORN: [Case; 12] = [
     Case {
         acts: ALL,
         lines: ALL,
-        bytes: b"10\t2026-05-05\tK/K-10\tRECALL\t09506000134352\tL2",
+        bytes: b"11\t2026-05-05\tK/K-11\tRECALL\t09506000134352\tL2",
         behind: (0, 0),
         fault: None,
     },
     Case {
         acts: ALL,
         lines: ALL,
-        bytes: b"\r",
+        bytes: b"1\0\0\0\0\0\0\0",
         behind: (0, 0),
         fault: None,
     },
 ];
 
 // What no stop leaves: the file is as it was.
-static OTHER: [Case; 21] = [
+static OTHER: [Case; 26] = [
     // Books of fewer acts than the file.
     Case {
         acts: 0,
@@ -184,7 +177,7 @@ static OTHER: [Case; 21] = [
         lines: ALL,
         bytes: b"",
         behind: (9, ALL),
-        fault: Some(ActsFault::Lacks(11)),
+        fault: Some(ActsFault::Differs(11)),
     },
     Case {
         acts: ALL,
@@ -213,7 +206,43 @@ static OTHER: [Case; 21] = [
         lines: ALL,
         bytes: b"\n",
         behind: (0, 0),
-        fault: Some(ActsFault::Lacks(11)),
+        fault: Some(ActsFault::Differs(11)),
+    },
+    // What is no part of the line of the next act, and small files of another kind.
+    Case {
+        acts: ALL,
+        lines: ALL,
+        bytes: b"10\t2026-05-05\tK/K-10\tRECALL\t09506000134352\tL2",
+        behind: (0, 0),
+        fault: Some(ActsFault::Differs(11)),
+    },
+    Case {
+        acts: ALL,
+        lines: ALL,
+        bytes: b"\r",
+        behind: (0, 0),
+        fault: Some(ActsFault::Differs(11)),
+    },
+    Case {
+        acts: ALL,
+        lines: 0,
+        bytes: b"1\t2026-05-04\tK/OTHER\tITEM",
+        behind: (0, 0),
+        fault: Some(ActsFault::Differs(1)),
+    },
+    Case {
+        acts: ALL,
+        lines: 0,
+        bytes: b"{\"port\": 8090}",
+        behind: (0, 0),
+        fault: Some(ActsFault::Differs(1)),
+    },
+    Case {
+        acts: ALL,
+        lines: 0,
+        bytes: b"[Unit]\nDescription=stock\n",
+        behind: (0, 0),
+        fault: Some(ActsFault::Differs(1)),
     },
     Case {
         acts: ALL,
@@ -342,13 +371,12 @@ fn changed(rt: &impl Abort, alloc: Global, text: &[u8], at: usize) -> Vec<u8> {
     bytes
 }
 
-/// Each byte of the file is another: its line differs. Without its end the last line reads as no act.
+/// Each byte of the file is another: its line differs, and nothing is changed.
 pub(crate) fn bytes_are_changed<S: Alter>(rt: &impl Abort, alloc: Global, books: &mut Books<S>) {
     let text = lines();
     act(rt, alloc, books, text);
     for at in 0..text.len() {
-        let is_last = at.saturating_add(1) == text.len();
-        let fault = (!is_last).then_some(ActsFault::Differs(line_at(at)));
+        let fault = Some(ActsFault::Differs(line_at(at)));
         let file = changed(rt, alloc, text, at);
         is_so(rt, alloc, books, ALL, file.as_slice(), fault);
     }
@@ -372,22 +400,24 @@ impl Tail {
     }
 }
 
-// Tails behind so many lines, and whether they are cut: one that is shorter than the longest line is.
+// Tails behind so many lines, and whether they are cut: behind the lines of all acts zeros are that are fewer than the longest
+// line may have.
 fn tails_are_told<S: Alter>(
     rt: &impl Abort,
     alloc: Global,
     books: &mut Books<S>,
     lines: usize,
     acts: usize,
-    misfit: ActsFault,
 ) {
-    for (byte, size, is_cut) in [
-        (0, LINE_MAX - 1, true),
-        (b'x', LINE_MAX - 1, true),
-        (0, LINE_MAX, false),
-        (b'x', LINE_MAX, false),
-        (0, 100_000, false),
+    let misfit = ActsFault::Differs((lines as u64).saturating_add(1));
+    for (byte, size) in [
+        (0, LINE_MAX - 1),
+        (b'x', LINE_MAX - 1),
+        (0, LINE_MAX),
+        (b'x', LINE_MAX),
+        (0, 100_000),
     ] {
+        let is_cut = lines == acts && byte == 0 && size < LINE_MAX;
         let file = Tail { lines, byte, size }.file(rt, alloc);
         let fault = (!is_cut).then_some(misfit);
         is_so(rt, alloc, books, acts, file.as_slice(), fault);
@@ -396,11 +426,11 @@ fn tails_are_told<S: Alter>(
 
 /// Long tails stand behind none, some and all of the lines of the books.
 pub(crate) fn tails_are_long<S: Alter>(rt: &impl Abort, alloc: Global, books: &mut Books<S>) {
-    tails_are_told(rt, alloc, books, 0, 0, ActsFault::Lacks(1));
+    tails_are_told(rt, alloc, books, 0, 0);
     act(rt, alloc, books, part(0, 4));
-    tails_are_told(rt, alloc, books, 4, 4, ActsFault::Lacks(5));
-    tails_are_told(rt, alloc, books, 2, 4, ActsFault::Differs(3));
-    tails_are_told(rt, alloc, books, 0, 4, ActsFault::Differs(1));
+    for lines in [4, 2, 0] {
+        tails_are_told(rt, alloc, books, lines, 4);
+    }
 }
 
 #[test]

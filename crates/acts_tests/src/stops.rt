@@ -23,7 +23,7 @@ pub(crate) struct Start {
 }
 
 /// After how many calls a disk stops at the latest. The work takes fewer.
-const MOST: u64 = 24;
+const MOST: u64 = 40;
 
 /// After how many acts the file is brought up: two at once are those of a goods-in file.
 static ENDS: [usize; 9] = [1, 2, 4, 5, 6, 7, 8, 9, ALL];

@@ -23,7 +23,7 @@ use Rattle.house.proofs.Adding.{more_filed}
 use Rattle.service.specs.Importing.{IsTakenIn, LeavesFile}
 use Rattle.service.proofs.Importing.{fault_too, read_too}
 use Rattle.kept_lines.specs.Kept.{HasActs, BeginsActs, StopLeaves}
-use Rattle.kept_lines.specs.Importing.{IsTaken, IsUntaken, IsTallyEnd, IsImportedBeside, IsImportDone, KeepsMore}
+use Rattle.kept_lines.specs.Importing.{IsTaken, IsUntaken, IsTallyEnd, IsImportedBeside, IsImportDone, KeepsMore, kept_of, import_keeps}
 use Rattle.kept_lines.proofs.Kept.{has_acts, begins_with, has_then_begins, stop_leaves}
 use Rattle.kept_lines.proofs.Opened.{leaves_on}
 
@@ -130,11 +130,11 @@ module _ {S D : Type 0} (s : StoreGhosts S) (g : Ghosts D) (first begun : ℤ) (
   abbrev Imported : Type 0
   Imported = IsImportedBeside s first acts (λ all. KeepsActs g begun all file) (BeginsWithActs g begun acts file) from end books old new
 
-  tally_on_disk : (all : List Act) (tally : Tally) → IsTallyEnd (KeepsActs g begun all file) (BeginsWithActs g begun acts file) tally end old new → IsTallyEnd (HasActs g file.disk begun all) (BeginsActs g file.disk begun acts) tally end old new
+  abbrev tally_on_disk : (all : List Act) (tally : Tally) → IsTallyEnd (KeepsActs g begun all file) (BeginsWithActs g begun acts file) tally end old new → IsTallyEnd (HasActs g file.disk begun all) (BeginsActs g file.disk begun acts) tally end old new
   tally_on_disk all tally (inl h) = inl (has_acts g begun all file h.0, h.1)
   tally_on_disk all tally (inr h) = inr (begins_with g begun acts file h.0, h.1, h.2)
 
-  on_disk : Imported → IsImportedBeside s first acts (HasActs g file.disk begun) (BeginsActs g file.disk begun acts) from end books old new
+  abbrev on_disk : Imported → IsImportedBeside s first acts (HasActs g file.disk begun) (BeginsActs g file.disk begun acts) from end books old new
   on_disk (inl t) = inl (t.0, t.1, tally_on_disk (acts_after_file first acts (rows_of t.1.rows)) t.0 t.2)
   on_disk (inr u) = inr (u.0, u.1, has_acts g begun acts file u.2)
 
@@ -143,8 +143,8 @@ module _ {S D : Type 0} (s : StoreGhosts S) (g : Ghosts D) (first begun : ℤ) (
   further trees history (inl same) = (acts, history, same, ([], refl))
   further trees history (inr some) = (acts_after_file first acts (rows_of some.0), some.1, some.2, file_adds first acts some.0)
 
-  stops_taken : (tally : Tally) (t : IsTaken s first acts from tally books) → IsTallyEnd (KeepsActs g begun (acts_after_file first acts (rows_of t.rows)) file) (BeginsWithActs g begun acts file) tally end old new
-      → StopLeaves s g first begun books.conn file.disk
+  stops_taken : (tally : Tally) (t : IsTaken s first acts from tally books) (h : IsTallyEnd (KeepsActs g begun (acts_after_file first acts (rows_of t.rows)) file) (BeginsWithActs g begun acts file) tally end old new)
+      → StopLeaves s g first begun (kept_of (acts_after_file first acts (rows_of t.rows)) acts (tally_on_disk (acts_after_file first acts (rows_of t.rows)) tally h)) books.conn file.disk
   stops_taken tally t (inl h) =
       let all = acts_after_file first acts (rows_of t.rows) in
       stop_leaves s g first begun books.conn file.disk all (has_then_begins g begun file.disk all (has_acts g begun all file h.0)) (λ trees left. (all, t.history, t.leaves trees left, ([], refl)))
@@ -152,7 +152,7 @@ module _ {S D : Type 0} (s : StoreGhosts S) (g : Ghosts D) (first begun : ℤ) (
       let all = acts_after_file first acts (rows_of t.rows) in
       stop_leaves s g first begun books.conn file.disk acts (begins_with g begun acts file h.0) (λ trees left. (all, t.history, t.leaves trees left, file_adds first acts t.rows))
 
-  stops : IsHistory first acts → Imported → StopLeaves s g first begun books.conn file.disk
+  stops : IsHistory first acts → (h : Imported) → StopLeaves s g first begun (import_keeps s g first acts begun from end books old new file.disk (on_disk h)) books.conn file.disk
   stops history (inl t) = stops_taken t.0 t.1 t.2
   stops history (inr u) =
       stop_leaves s g first begun books.conn file.disk acts (has_then_begins g begun file.disk acts (has_acts g begun acts file u.2)) (λ trees left. further trees history (u.0.leaves trees left))

@@ -31,8 +31,8 @@ oldest_then old mid new one two = (two.0 ++ one.0, two.1 ∙ ap (λ l. two.0 ++ 
 
 -- a stop leaves books of acts that go on from those with whose lines the file begins
 pub stop_leaves : {S D : Type 0} (s : StoreGhosts S) (g : Ghosts D) (first begun : ℤ) (conn : Held S) (disk : D) (older : List Act) → BeginsActs g disk begun older
-    → ((trees : Trees) → (state s conn).may_leave trees → (kept : List Act) × IsHistory first kept × AreBooks first kept trees × AreOldest older kept) → StopLeaves s g first begun conn disk
+    → ((trees : Trees) → (state s conn).may_leave trees → (kept : List Act) × IsHistory first kept × AreBooks first kept trees × AreOldest older kept) → StopLeaves s g first begun older conn disk
 stop_leaves s g first begun conn disk older begins leaves clean trees c left of_file =
     let books = leaves trees left in
     let rest = begins clean c of_file in
-    (books.0, older, books.1, books.2, books.3, rest.0, rest.1)
+    (books.0, books.1, books.2, books.3, rest.0, rest.1)

@@ -2,3 +2,4 @@ mod Opened
 mod Kept
 mod Served
 mod Imported
+pub mod Losing

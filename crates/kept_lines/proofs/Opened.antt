@@ -11,7 +11,8 @@ use Rattle.store.specs.Connected.{Connected}
 use Rattle.store.specs.Books.{HoldsBooks, IsClean, LeavesOnly}
 use Rattle.applies.specs.Begun.{BegunOn}
 use Rattle.acts_files.specs.KeptActs.{NoHistory}
-use Rattle.acts_files.specs.Walked.{IsSameFile, IsNoMisfit}
+use Rattle.acts_files.specs.Faults.{IsNoMisfit}
+use Rattle.acts_files.specs.Kept.{IsSameFile}
 use Rattle.acts_files.specs.Opened.{IsOpened, IsNotOpened}
 use Rattle.acts_files.specs.declared.acts_file.ActsFile.{ActsFile}
 use Rattle.acts_files.specs.declared.fault.ActsFault.{ActsFault}

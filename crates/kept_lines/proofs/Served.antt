@@ -22,7 +22,7 @@ use Rattle.service.specs.declared.serve.Stopped.{Stopped}
 use Rattle.service.specs.declared.serve.Stopped.TheVariants.{Log, Unkept}
 use Rattle.kept_lines.specs.Faults.{end_of}
 use Rattle.kept_lines.specs.Kept.{keeps_acts, begins_acts, HasActs, BeginsActs, StopLeaves}
-use Rattle.kept_lines.specs.Serving.{IsPortServed, IsServedBeside}
+use Rattle.kept_lines.specs.Serving.{kept_of, IsPortServed, IsServedBeside}
 use Rattle.kept_lines.specs.declared.kept_acts.KeptActs.{KeptActs}
 use Rattle.kept_lines.proofs.Kept.{has_acts, begins_with, has_then_begins, oldest_then, stop_leaves}
 
@@ -64,7 +64,7 @@ further first older after told trees history oldest (inr one) =
 
 module _ {S D : Type 0} (s : StoreGhosts S) (g : Ghosts D) (first : ℤ) (acts : List Act) (begun : ℤ) where
   -- what is kept of the acts is on the disk under the file
-  on_disk : (stopped : Result Unit Stopped) (texts answers : List (List ℕ)) (after : List Act) (kept : KeptActs D) → AreKept s (keeps_acts g) (begins_acts g) first acts stopped begun texts answers after kept
+  abbrev on_disk : (stopped : Result Unit Stopped) (texts answers : List (List ℕ)) (after : List Act) (kept : KeptActs D) → AreKept s (keeps_acts g) (begins_acts g) first acts stopped begun texts answers after kept
       → AreKept s (HasActs g) (BeginsActs g) first acts stopped begun texts answers after kept.file.disk
   on_disk (Ok done) texts answers after kept h = has_acts g begun after kept.file h
   on_disk (Err Log) texts answers after kept h = has_acts g begun after kept.file h
@@ -82,7 +82,7 @@ module _ {S D : Type 0} (s : StoreGhosts S) (g : Ghosts D) (first : ℤ) (acts :
   }
 
   stops : (stopped : Result Unit Stopped) (texts answers : List (List ℕ)) (after : List Act) (told : List (List ℕ × List ℕ)) (conn : Held S) (disk : D) → IsHistory first after → LeavesBooks first after told (state s conn)
-      → AreKept s (HasActs g) (BeginsActs g) first acts stopped begun texts answers after disk → StopLeaves s g first begun conn disk
+      → (kept : AreKept s (HasActs g) (BeginsActs g) first acts stopped begun texts answers after disk) → StopLeaves s g first begun (kept_of s g first acts begun stopped texts answers after disk kept) conn disk
   stops (Ok done) texts answers after told conn disk history leaves h =
       stop_leaves s g first begun conn disk after (has_then_begins g begun disk after h) (λ trees left. further first after after told trees history ([], refl) (leaves trees left))
   stops (Err Log) texts answers after told conn disk history leaves h =

@@ -4,7 +4,8 @@ use Rattle.acts_files.specs.declared.fault.ActsFault.{ActsFault}
 use Rattle.acts_files.specs.declared.fault.ActsFault.TheVariants as acts
 use Rattle.command_line.specs.declared.apply_fault.ApplyFault.TheVariants as apply
 use Rattle.command_line.specs.declared.fault.Fault.{Fault}
-use Rattle.command_line.specs.declared.fault.Fault.TheVariants.{Apply, Acts, Io, Store}
+use Rattle.command_line.specs.declared.fault.Fault.TheVariants.{Apply, Acts, Foreign, Io, Store}
+use Rattle.house.specs.declared.keeping.KeepFault.{KeepFault}
 use Rattle.house.specs.declared.keeping.KeepFault.TheVariants as keep
 use Rattle.service.specs.declared.serve.Stopped.{Stopped}
 use Rattle.service.specs.declared.serve.Stopped.TheVariants.{Log, Unkept}
@@ -13,8 +14,17 @@ use Rattle.service.specs.declared.serve.Stopped.TheVariants.{Log, Unkept}
 abbrev pub fault_of_acts : ActsFault → Fault
 fault_of_acts acts.File = Acts
 fault_of_acts acts.Store = Store
+fault_of_acts acts.Foreign = Foreign
 fault_of_acts (acts.Differs act) = Apply (apply.Differs act)
 fault_of_acts (acts.Lacks act) = Apply (apply.Lacks act)
+
+-- the same, while a port is served
+abbrev pub keep_fault : ActsFault → KeepFault
+keep_fault acts.File = keep.Place
+keep_fault acts.Store = keep.Store
+keep_fault acts.Foreign = keep.Store
+keep_fault (acts.Differs act) = keep.Place
+keep_fault (acts.Lacks act) = keep.Place
 
 -- how a port was served
 abbrev pub end_of : Result Unit Stopped → Result Unit Fault

@@ -1,5 +1,6 @@
 -- What importing a goods-in file does to the books, and what the file of their acts keeps.
 use Rattle.std.specs.Prelude.{◌≡◌, ◌⊎◌, ℕ, ℤ, List, Option, Result, Ok, Err}
+use Rattle.std.proofs.Common.{inl, inr}
 use Rattle.std.specs.Io.KnownBytes.{Appends}
 use Rattle.sqlite_disk.specs.declared.Disk.{Ghosts}
 use Rattle.sqlite_trees.specs.declared.store.Store.{Ghosts as StoreGhosts}
@@ -12,6 +13,7 @@ use Rattle.store.specs.Connected.{Connected}
 use Rattle.store.specs.Books.{HoldsBooks, KeepsBooks, LeavesOnly}
 use Rattle.store.specs.Filing.{rows_of, taken}
 use Rattle.store.specs.declared.tally.Tally.{Tally}
+use Rattle.acts_files.specs.Faults.{IsNoMisfit}
 use Rattle.acts_files.specs.KeptActs.{AreOldest}
 use Rattle.acts_files.specs.declared.acts_file.ActsFile.{ActsFile}
 use Rattle.acts_files.specs.declared.fault.ActsFault.{ActsFault}
@@ -28,8 +30,9 @@ IsTallyTold tally (Ok done) old new = Appends old new (tally_line tally.accepted
 IsTallyTold tally (Err fault) old new = fault ≡ Io
 
 -- All acts are kept, and then the tally is told. Or they could not be kept, and nothing is printed: a stop leaves at least those before.
+-- What is told then is no act in which the file and the books part.
 abbrev pub IsTallyEnd : (Keeps Begins : Type 0) → Tally → Result Unit Fault → (old new : Option (List ℕ)) → Type 0
-IsTallyEnd Keeps Begins tally end old new = (Keeps × IsTallyTold tally end old new) ⊎ (Begins × ((fault : ActsFault) × (end ≡ Err (fault_of_acts fault))) × (new ≡ old))
+IsTallyEnd Keeps Begins tally end old new = (Keeps × IsTallyTold tally end old new) ⊎ (Begins × ((fault : ActsFault) × IsNoMisfit fault × (end ≡ Err (fault_of_acts fault))) × (new ≡ old))
 
 module _ {S : Type 0} (s : StoreGhosts S) (first : ℤ) (acts : List Act) where
   -- the rows of the file, which has these bytes where they are known, are in the books, now and after a stop
@@ -54,13 +57,23 @@ module _ {S : Type 0} (s : StoreGhosts S) (first : ℤ) (acts : List Act) where
       ((tally : Tally) × (t : IsTaken from tally books) × IsTallyEnd (Keeps (acts_after_file first acts (rows_of t.rows))) Begins tally end old new)
       ⊎ (IsUntaken from end books × (new ≡ old) × Keeps acts)
 
+-- the acts that are kept after an import: those after the file, or those before it
+abbrev pub kept_of : {Taken Untaken : Type 0} → (after before : List Act) → Taken ⊎ Untaken → List Act
+kept_of after before (inl kept) = after
+kept_of after before (inr unkept) = before
+
 module _ {S D : Type 0} (s : StoreGhosts S) (g : Ghosts D) (first : ℤ) (acts : List Act) where
+  abbrev pub import_keeps : (begun : ℤ) (from : Option (List ℕ)) (end : Result Unit Fault) (books : Connected S) (old new : Option (List ℕ)) (disk : D)
+      → IsImportedBeside s first acts (HasActs g disk begun) (BeginsActs g disk begun acts) from end books old new → List Act
+  import_keeps begun from end books old new disk (inl t) = kept_of (acts_after_file first acts (rows_of t.1.rows)) acts t.2
+  import_keeps begun from end books old new disk (inr u) = acts
+
   -- the same of a connection, and of the disk under the file
   pub record IsImportDone (begun : ℤ) (from : Option (List ℕ)) (conn : Held S) (end : Result Unit Fault) (old new : Option (List ℕ)) (disk : D) : Type 0 where
     pub books : Connected S
     pub is : conn ≡ books.conn
     pub imported : IsImportedBeside s first acts (HasActs g disk begun) (BeginsActs g disk begun acts) from end books old new
-    pub stop : StopLeaves s g first begun conn disk
+    pub stop : StopLeaves s g first begun (import_keeps begun from end books old new disk imported) conn disk
 
   -- the file of the acts was refused, and nothing was done or told; or it was opened, and the goods-in file imported
   abbrev pub IsImportEnd : (disk : D) → (from : Option (List ℕ)) → (conn : Held S) → (end : Result Unit Fault) → (old new : Option (List ℕ)) → (after : D) → Type 0

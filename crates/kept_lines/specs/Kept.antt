@@ -9,7 +9,7 @@ use Rattle.machine.specs.Once.{IsHistory}
 use Rattle.histories.specs.Text.{history_text}
 use Rattle.store.specs.Books.{AreBooks}
 use Rattle.acts_files.specs.Kept.{HasText, BeginsWith}
-use Rattle.acts_files.specs.KeptActs.{KeepsActs, BeginsWithActs, AreOldest}
+use Rattle.acts_files.specs.KeptActs.{KeepsActs, BeginsWithActs, HoldsText, AreOldest}
 use Rattle.kept_lines.specs.declared.kept_acts.KeptActs.{KeptActs}
 
 -- the file keeps these acts, begun on this day
@@ -19,6 +19,10 @@ keeps_acts g kept begun acts = KeepsActs g begun acts kept.file
 -- whatever a stop leaves of it begins with their lines
 abbrev pub begins_acts : {D : Type 0} → Ghosts D → KeptActs D → ℤ → List Act → Type 0
 begins_acts g kept begun acts = BeginsWithActs g begun acts kept.file
+
+-- and with this text, whatever it is
+abbrev pub has_text : {D : Type 0} → Ghosts D → KeptActs D → List ℕ → Type 0
+has_text g kept text = HoldsText g kept.file text
 
 -- its disk has returned what was written
 abbrev pub has_clean_file : {D : Type 0} → Ghosts D → KeptActs D → Bool
@@ -32,8 +36,7 @@ HasActs g disk begun acts = IsTrue (g.is_clean disk) → (len : ℕ) × HasText 
 abbrev pub BeginsActs : {D : Type 0} → Ghosts D → D → ℤ → List Act → Type 0
 BeginsActs g disk begun acts = IsTrue (g.is_clean disk) → BeginsWith g (history_text begun acts) disk
 
--- Whatever a stop leaves of the books and of the file at one moment: books of acts, and the lines of the oldest of them. So what the
--- file lacks can always be added.
-abbrev pub StopLeaves : {S D : Type 0} → StoreGhosts S → Ghosts D → (first begun : ℤ) → Held S → D → Type 0
-StopLeaves s g first begun conn disk = IsTrue (g.is_clean disk) → (trees : Trees) (c : List ℕ) → (state s conn).may_leave trees → g.may_leave disk c
-    → (kept : List Act) × (older : List Act) × IsHistory first kept × AreBooks first kept trees × AreOldest older kept × (rest : List ℕ) × (c ≡ history_text begun older ++ rest)
+-- Whatever a stop leaves of the books and of the file at one moment: books of these acts or more, and the lines of these first.
+abbrev pub StopLeaves : {S D : Type 0} → StoreGhosts S → Ghosts D → (first begun : ℤ) → (older : List Act) → Held S → D → Type 0
+StopLeaves s g first begun older conn disk = IsTrue (g.is_clean disk) → (trees : Trees) (c : List ℕ) → (state s conn).may_leave trees → g.may_leave disk c
+    → (kept : List Act) × IsHistory first kept × AreBooks first kept trees × AreOldest older kept × (rest : List ℕ) × (c ≡ history_text begun older ++ rest)

@@ -8,6 +8,7 @@ use Rattle.machine.specs.Acts.{Act}
 use Rattle.machine.specs.Once.{IsHistory}
 use Rattle.store.specs.Connected.{Connected}
 use Rattle.store.specs.Opening.{AreFoundRows}
+use Rattle.acts_files.specs.Kept.{LosesNoLine}
 use Rattle.command_line.specs.declared.fault.Fault.{Fault}
 use Rattle.service.specs.Serving.{IsPortTold, told_port}
 use Rattle.service.specs.Importing.{KeepsFile, IsFileImported}
@@ -18,6 +19,10 @@ use Rattle.kept_lines.specs.Importing.{IsImportEnd, KeepsMore}
 abbrev pub IsDoneWith : {D : Type 0} → (Done : D → D → Type 0) → (before after : Option D) → Type 0
 IsDoneWith Done None after = after ≡ None
 IsDoneWith {D} Done (Some disk) after = (new : D) × (after ≡ Some new) × Done disk new
+
+-- no whole line of the disk for the acts is lost, if there is one, whatever the books are
+abbrev pub LosesNoLineIf : {D : Type 0} → Ghosts D → (before after : Option D) → Type 0
+LosesNoLineIf g before after = IsDoneWith (LosesNoLine g) before after
 
 module _ {S D : Type 0} (s : StoreGhosts S) (g : Ghosts D) (conn : Held S) where
   -- over the rows of a history

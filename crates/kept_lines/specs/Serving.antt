@@ -1,5 +1,5 @@
 -- What serving a port does to the books, and what the file of their acts keeps.
-use Rattle.std.specs.Prelude.{◌≡◌, ◌⊎◌, ℕ, ℤ, List, Bool, Option, Result}
+use Rattle.std.specs.Prelude.{◌≡◌, ◌⊎◌, ℕ, ℤ, List, Bool, Option, Result, Ok, Err}
 use Rattle.sqlite_disk.specs.declared.Disk.{Ghosts}
 use Rattle.sqlite_trees.specs.declared.store.Store.{Ghosts as StoreGhosts}
 use Rattle.sqlite.specs.Held.{Held}
@@ -10,6 +10,7 @@ use Rattle.command_line.specs.declared.fault.Fault.{Fault}
 use Rattle.service.specs.Serving.{KeepsLogged}
 use Rattle.service.specs.Kept.{AreKept, HasKept}
 use Rattle.service.specs.declared.serve.Stopped.{Stopped}
+use Rattle.service.specs.declared.serve.Stopped.TheVariants.{Log, Unkept}
 use Rattle.kept_lines.specs.Faults.{end_of}
 use Rattle.kept_lines.specs.Kept.{HasActs, BeginsActs, StopLeaves}
 use Rattle.kept_lines.specs.Beside.{IsOpenedBeside, IsRefusedBeside}
@@ -21,6 +22,12 @@ IsPortServed s keeps begins first acts max was books asked end old new before af
     (stopped : Result Unit Stopped) × (end ≡ end_of stopped) × HasKept s keeps begins first acts max was books asked stopped old new before after
 
 module _ {S D : Type 0} (s : StoreGhosts S) (g : Ghosts D) (first : ℤ) (acts : List Act) where
+  -- the acts that are kept after a run: all, or those before its last text
+  abbrev pub kept_of : (begun : ℤ) (stopped : Result Unit Stopped) (texts answers : List (List ℕ)) (after : List Act) (disk : D) → AreKept s (HasActs g) (BeginsActs g) first acts stopped begun texts answers after disk → List Act
+  kept_of begun (Ok done) texts answers after disk kept = after
+  kept_of begun (Err Log) texts answers after disk kept = after
+  kept_of begun (Err (Unkept fault)) texts answers after disk kept = kept.before
+
   -- The connection keeps the books of the acts after a run, and the disk under the file all these acts. Only where the end is that
   -- they could not be kept, those of the last text may be missing, which got no byte of an answer.
   pub record IsServedBeside (begun : ℤ) (max : ℕ) (conn : Held S) (asked : Bool) (end : Result Unit Fault) (old new : Option (List ℕ)) (disk : D) : Type 0 where
@@ -28,7 +35,7 @@ module _ {S D : Type 0} (s : StoreGhosts S) (g : Ghosts D) (first : ℤ) (acts :
     pub told : end ≡ end_of stopped
     pub run : KeepsLogged s first acts max conn asked stopped old new
     pub kept : AreKept s (HasActs g) (BeginsActs g) first acts stopped begun run.0.texts run.0.answers run.0.after disk
-    pub stop : StopLeaves s g first begun conn disk
+    pub stop : StopLeaves s g first begun (kept_of begun stopped run.0.texts run.0.answers run.0.after disk kept) conn disk
 
   -- the file was refused before anything was told or logged, or it was opened and the port served
   abbrev pub IsServeEnd : (max : ℕ) → (disk : D) → (conn : Held S) → (asked : Bool) → (end : Result Unit Fault) → (out_old out_new old new : Option (List ℕ)) → (after : D) → Type 0

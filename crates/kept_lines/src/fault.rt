@@ -9,13 +9,14 @@ use house::KeepFault;
 use service::Stopped;
 
 /// Why the file does not keep the acts, as the line tells it: `Acts` where it cannot be read, written or synced, `Store` for
-/// the books, and else the act in which the two part.
+/// memory or the disk of the books, `Foreign` for their rows, and else the act in which the two part.
 pub fn fault_of_acts(fault: ActsFault) -> Fault
     ensures { result ≡ fault_of_acts_lem fault }
 {
     match fault {
         ActsFault::File => Fault::Acts,
         ActsFault::Store => Fault::Store,
+        ActsFault::Foreign => Fault::Foreign,
         ActsFault::Differs(act) => Fault::Apply(ApplyFault::Differs { act }),
         ActsFault::Lacks(act) => Fault::Apply(ApplyFault::Lacks { act }),
     }

@@ -9,7 +9,9 @@ ghost use Rattle.machine.specs.Once.{IsHistory};
 ghost use Rattle.store.specs.Books.{HoldsBooks, IsClean, LeavesOnly};
 ghost use Rattle.store.specs.Opening.{IsOfNone, AreFoundRows};
 ghost use Rattle.line_books.specs.Failing.{IsUnopened};
-ghost use Rattle.acts_files.specs.KeptActs.{KeepsActs, BeginsWithActs, NoHistory};
+ghost use Rattle.acts_files.specs.Kept.{LosesNoLine};
+ghost use Rattle.acts_files.specs.Opened.{KeepsLines};
+ghost use Rattle.acts_files.specs.KeptActs.{KeepsActs, BeginsWithActs, KeepsTexts, NoHistory};
 ghost use Rattle.kept_lines.specs.Importing.{IsImportEnd, IsImportDone, IsImportedBeside, IsTallyEnd, IsTallyTold, KeepsMore};
 
 use crate::fault::fault_of_acts;
@@ -45,6 +47,7 @@ pub fn open_and_import_kept<S: Orderly + Drop, D: Disk, F: FilesAt, W: Write>(
     ensures other { IsOfNone (state S.Store conn).now.schema → IsErr result.0 }
     ensures within { conn.in_transaction ≡ true → IsErrAnd result.0 (λ e. (e.0 ≡ leftover.Connection conn) × (e.1 ≡ Fault.Store)) }
     ensures left { IfErr result.0 (λ e. IsUnopened S.Store conn e.0 e.1) }
+    ensures lines { LosesNoLine D.Disk disk result.1 }
     ensures silent { IsErr result.0 → (out.new ≡ out.old) × (result.1 ≡ disk) }
 {
     match open_books(alloc, conn) {
@@ -71,6 +74,7 @@ fn import_books<S: Alter + Drop, D: Disk, F: FilesAt, W: Write>(
     ensures beside { HasCleanDisk (state S.Store result.0.0) → (first : ℤ) (acts : List Act) → IsHistory first acts → HoldsBooks S.Store first acts books
         → LeavesOnly first acts (state S.Store books.conn)
         → IsImportEnd S.Store D.Disk first acts disk (F.bytes files.now name.now) result.0.0 result.0.1 (W.contents out.old) (W.contents out.new) result.1 }
+    ensures lines { LosesNoLine D.Disk disk result.1 }
 {
     let mut books = books;
     match open_acts(alloc, disk, &mut books) {
@@ -92,6 +96,7 @@ fn import_beside<S: Alter + Drop, D: Disk, F: FilesAt, W: Write>(
     ensures beside { HasCleanDisk (state S.Store result.0.0) → (first begun : ℤ) (older : List Act) → IsHistory first older → HoldsBooks S.Store first older books
         → LeavesOnly first older (state S.Store books.conn) → KeepsActs D.Disk begun older acts
         → IsImportDone S.Store D.Disk first older begun (F.bytes files.now name.now) result.0.0 result.0.1 (W.contents out.old) (W.contents out.new) result.1 }
+    ensures lines { (before : D) → KeepsLines D.Disk before acts → LosesNoLine D.Disk before result.1 }
 {
     let mut books = books;
     let mut acts = acts;
@@ -112,6 +117,7 @@ fn import_named<S: Alter, D: Disk, F: FilesAt, W: Write>(
     ensures imported { IsClean S.Store books.new → (first begun : ℤ) (older : List Act) → IsHistory first older → HoldsBooks S.Store first older books.old
         → LeavesOnly first older (state S.Store books.old.conn) → KeepsActs D.Disk begun older acts.old
         → IsImportedBeside S.Store first older (λ all. KeepsActs D.Disk begun all acts.new) (BeginsWithActs D.Disk begun older acts.new) (F.bytes files.now name.now) result books.new (W.contents out.old) (W.contents out.new) }
+    ensures loses { KeepsTexts D.Disk acts.old acts.new }
 {
     match files.open(name) {
         Ok(file) => import_kept(alloc, books, acts, file, out),
@@ -132,6 +138,7 @@ pub fn import_kept<S: Alter, D: Disk, R: Read + Drop, W: Write>(
     ensures imported { IsClean S.Store books.new → (first begun : ℤ) (older : List Act) → IsHistory first older → HoldsBooks S.Store first older books.old
         → LeavesOnly first older (state S.Store books.old.conn) → KeepsActs D.Disk begun older acts.old
         → IsImportedBeside S.Store first older (λ all. KeepsActs D.Disk begun all acts.new) (BeginsWithActs D.Disk begun older acts.new) (R.remaining file) result books.new (W.contents out.old) (W.contents out.new) }
+    ensures loses { KeepsTexts D.Disk acts.old acts.new }
 {
     let tally = take_in(alloc, books, file)?;
     keep_and_tell(alloc, books, acts, tally, out)
@@ -149,6 +156,7 @@ fn keep_and_tell<S: Alter, D: Disk, W: Write>(
     ensures told { IsClean S.Store books.new → (first begun : ℤ) (newer older : List Act) → IsHistory first (newer ++ older) → HoldsBooks S.Store first (newer ++ older) books.old → KeepsActs D.Disk begun older acts.old
         → HoldsBooks S.Store first (newer ++ older) books.new
         × IsTallyEnd (KeepsActs D.Disk begun (newer ++ older) acts.new) (BeginsWithActs D.Disk begun older acts.new) tally result (W.contents out.old) (W.contents out.new) }
+    ensures loses { KeepsTexts D.Disk acts.old acts.new }
     ensures survives { Survives (state S.Store books.old.conn) (state S.Store books.new.conn) (NoHistory S.Store books.old) }
 {
     match acts.bring_up(alloc, books) {

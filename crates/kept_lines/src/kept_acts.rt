@@ -1,5 +1,8 @@
 //! A file of the acts, as what is done is kept in it.
 
+ghost use Rattle.std.specs.Prelude.{◌≡◌};
+ghost use Rattle.kept_lines.specs.Faults.{keep_fault as keep_fault_lem};
+
 use acts_files::{ActsFault, ActsFile};
 use house::{KeepFault, Keeper};
 use sqlite::Alter;
@@ -14,11 +17,13 @@ pub struct KeptActs<D> {
 }
 
 impl<S: Alter, D: Disk> Keeper<S> for KeptActs<D> {
-    ghost use Rattle.kept_lines.specs.Kept.{keeps_acts, begins_acts, has_clean_file};
+    ghost use Rattle.kept_lines.specs.Kept.{keeps_acts, begins_acts, has_text, has_clean_file};
 
     ghost keeps = { keeps_acts D.Disk };
 
     ghost begins = { begins_acts D.Disk };
+
+    ghost has_text = { has_text D.Disk };
 
     ghost is_clean = { has_clean_file D.Disk };
 
@@ -30,10 +35,12 @@ impl<S: Alter, D: Disk> Keeper<S> for KeptActs<D> {
     }
 }
 
-/// The fault, as keeping acts tells it.
-fn keep_fault(fault: ActsFault) -> KeepFault {
+/// The fault, as keeping acts tells it: `Store` where it is one of the books, or of memory, and else `Place`.
+fn keep_fault(fault: ActsFault) -> KeepFault
+    ensures { result ≡ keep_fault_lem fault }
+{
     match fault {
-        ActsFault::Store => KeepFault::Store,
-        _ => KeepFault::Place,
+        ActsFault::Store | ActsFault::Foreign => KeepFault::Store,
+        ActsFault::File | ActsFault::Differs(_) | ActsFault::Lacks(_) => KeepFault::Place,
     }
 }

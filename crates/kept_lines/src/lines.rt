@@ -9,7 +9,7 @@ ghost use Rattle.machine.specs.Once.{IsHistory};
 ghost use Rattle.store.specs.Opening.{IsOfNone, AreFoundRows};
 ghost use Rattle.line_books.specs.Failing.{IsUnopened};
 ghost use Rattle.service.specs.Serving.{KeepsLogged};
-ghost use Rattle.kept_lines.specs.Lines.{IsPortToldIf, IsServedWith, IsImportedWith, IsImportToldIf, KeepsImported};
+ghost use Rattle.kept_lines.specs.Lines.{LosesNoLineIf, IsPortToldIf, IsServedWith, IsImportedWith, IsImportToldIf, KeepsImported};
 
 use crate::importing::open_and_import_kept;
 use crate::serving::open_and_serve_kept;
@@ -41,6 +41,7 @@ pub fn serve_line<S: Orderly + Drop, D: Disk + Drop, W: Write, L: Write>(
         → AreFoundRows first acts (state S.Store conn).committed.trees → KeepsLogged S.Store first acts max w.0 logged w.1 (L.contents log.old) (L.contents log.new)) }
     ensures beside { IfOk result (λ w. HasCleanDisk (state S.Store w.0)
         → IsServedWith S.Store D.Disk conn max w.0 logged w.1 (W.contents out.old) (W.contents out.new) (L.contents log.old) (L.contents log.new) acts.old acts.new) }
+    ensures lines { LosesNoLineIf D.Disk acts.old acts.new }
     ensures quiet { logged ≡ false → log.new ≡ log.old }
     ensures told { IfOk result (λ w. HasCleanDisk (state S.Store w.0) → IsPortToldIf acts.old port (W.contents out.old) (W.contents out.new) w.1) }
     ensures other { IsOfNone (state S.Store conn).now.schema → IsErr result }
@@ -75,6 +76,7 @@ pub fn import_line<S: Orderly + Drop, D: Disk + Drop, F: FilesAt, W: Write>(
         → AreFoundRows first older (state S.Store conn).committed.trees → KeepsImported S.Store acts.old first older w.0) }
     ensures beside { IfOk result (λ w. HasCleanDisk (state S.Store w.0)
         → IsImportedWith S.Store D.Disk conn (F.bytes files.now name.now) w.0 w.1 (W.contents out.old) (W.contents out.new) acts.old acts.new) }
+    ensures lines { LosesNoLineIf D.Disk acts.old acts.new }
     ensures told { IfOk result (λ w. HasCleanDisk (state S.Store w.0) → (first : ℤ) (older : List Act) → IsHistory first older
         → AreFoundRows first older (state S.Store conn).committed.trees
         → IsImportToldIf S.Store acts.old first older (F.bytes files.now name.now) w.1 w.0 (W.contents out.old) (W.contents out.new)) }

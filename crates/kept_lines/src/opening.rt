@@ -7,14 +7,16 @@ ghost use Rattle.machine.specs.Acts.{Act};
 ghost use Rattle.machine.specs.Once.{IsHistory};
 ghost use Rattle.store.specs.Books.{HoldsBooks, IsClean};
 ghost use Rattle.acts_files.specs.KeptActs.{NoHistory};
-ghost use Rattle.acts_files.specs.Walked.{IsSameFile, IsNoMisfit};
+ghost use Rattle.acts_files.specs.Faults.{IsNoMisfit};
+ghost use Rattle.acts_files.specs.Kept.{IsSameFile, LosesNoLine};
+ghost use Rattle.acts_files.specs.Opened.{KeepsLines};
 ghost use Rattle.applies.specs.Begun.{BegunOn};
 ghost use Rattle.kept_lines.specs.Beside.{IsOpenedBeside, IsNotOpenedBeside};
 ghost use Rattle.kept_lines.specs.Faults.{fault_of_acts as fault_of_acts_lem};
 
 use crate::fault::fault_of_acts;
 use acts_files::{ActsFault, ActsFile, NotOpened, open_beside};
-use applies::find_begun;
+use applies::{NotApplied, find_begun};
 use label::Day;
 use line_books::AfterWork;
 use sqlite::Alter;
@@ -26,7 +28,8 @@ use store::Books;
 const HEAD: usize = 64;
 
 /// Holds the file against the books, as `open_beside` does, from the day on which their acts began. Where the tables do not
-/// tell that day, it is that of the first line, if it may be.
+/// tell that day, it is that of the first line, if it may be. However it ends, and whatever the books are, each whole line
+/// that the file had first stands in it.
 pub fn open_acts<S: Alter, D: Disk>(
     alloc: Global,
     disk: D,
@@ -35,6 +38,8 @@ pub fn open_acts<S: Alter, D: Disk>(
     ensures clean { IsClean S.Store books.new → IsClean S.Store books.old }
     ensures kept { IsClean S.Store books.new → (first : ℤ) (acts : List Act) → IsHistory first acts → HoldsBooks S.Store first acts books.old
         → HoldsBooks S.Store first acts books.new × IfOk result (IsOpenedBeside D.Disk first acts disk) × IfErr result (IsNotOpenedBeside D.Disk first acts disk) }
+    ensures lines { IfOk result (KeepsLines D.Disk disk) }
+    ensures unopened { IfErr result (λ e. LosesNoLine D.Disk disk e.disk) }
     ensures survives { Survives (state S.Store books.old.conn) (state S.Store books.new.conn) (NoHistory S.Store books.old) }
 {
     let mut disk = disk;
@@ -71,6 +76,7 @@ fn begun_by<S: Alter>(alloc: Global, books: &mut Books<S>, head: &[u8]) -> Resul
 {
     match find_begun(alloc, books, head) {
         Ok(day) => Ok(day),
+        Err(NotApplied::Foreign) => Err(ActsFault::Foreign),
         Err(_) => Err(ActsFault::Store),
     }
 }

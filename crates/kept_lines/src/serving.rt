@@ -1,6 +1,6 @@
 //! A port that is served over books whose acts are kept in a second file.
 
-ghost use Rattle.std.specs.Prelude.{◌≡◌, ◌⊎◌, ℤ, [], List, true, false, IsErr, IsErrAnd, OnOk, IfOk, IfErr};
+ghost use Rattle.std.specs.Prelude.{◌≡◌, ◌⊎◌, ℕ, ℤ, [], List, true, false, IsErr, IsErrAnd, OnOk, IfOk, IfErr, IsTrue};
 ghost use Rattle.std.specs.Io.KnownBytes.{Appends};
 ghost use Rattle.books_schema.specs.declared.ready_connection.Leftover.TheVariants as leftover;
 ghost use Rattle.sqlite.specs.Held.{state};
@@ -12,6 +12,8 @@ ghost use Rattle.store.specs.Opening.{IsOfNone, AreFoundRows};
 ghost use Rattle.house.specs.House.{books_of};
 ghost use Rattle.line_books.specs.Failing.{IsUnopened};
 ghost use Rattle.service.specs.Serving.{KeepsLogged, told_port};
+ghost use Rattle.acts_files.specs.Kept.{LosesNoLine};
+ghost use Rattle.acts_files.specs.Opened.{KeepsLines};
 ghost use Rattle.acts_files.specs.KeptActs.{KeepsActs};
 ghost use Rattle.kept_lines.specs.Serving.{IsPortServed, IsServedBeside, IsServeEnd};
 
@@ -55,6 +57,7 @@ pub fn open_and_serve_kept<S: Orderly + Drop, D: Disk, W: Write, L: Write>(
     ensures other { IsOfNone (state S.Store conn).now.schema → IsErr result.0 }
     ensures within { conn.in_transaction ≡ true → IsErrAnd result.0 (λ e. (e.0 ≡ leftover.Connection conn) × (e.1 ≡ Fault.Store)) }
     ensures left { IfErr result.0 (λ e. IsUnopened S.Store conn e.0 e.1) }
+    ensures lines { LosesNoLine D.Disk disk result.1 }
     ensures silent { IsErr result.0 → (out.new ≡ out.old) × (log.new ≡ log.old) × (result.1 ≡ disk) }
 {
     match open_books(rt.alloc(), conn) {
@@ -84,6 +87,7 @@ fn serve_books<S: Alter + Drop, D: Disk, W: Write, L: Write>(
     ensures beside { HasCleanDisk (state S.Store result.0.0) → (first : ℤ) (acts : List Act) → IsHistory first acts → HoldsBooks S.Store first acts books
         → LeavesOnly first acts (state S.Store books.conn)
         → IsServeEnd S.Store D.Disk first acts max disk result.0.0 logged result.0.1 (W.contents out.old) (W.contents out.new) (L.contents log.old) (L.contents log.new) result.1 }
+    ensures lines { LosesNoLine D.Disk disk result.1 }
     ensures quiet { logged ≡ false → log.new ≡ log.old }
     ensures told { OnOk result.0.1 (Appends (W.contents out.old) (W.contents out.new) (told_port port)) }
 {
@@ -112,6 +116,7 @@ fn serve_beside<S: Alter + Drop, D: Disk, W: Write, L: Write>(
         → IsServedBeside S.Store D.Disk first acts begun max result.0.0 logged result.0.1 (L.contents log.old) (L.contents log.new) result.1 }
     ensures served { HasCleanDisk (state S.Store result.0.0) → (first : ℤ) (acts : List Act) → IsHistory first acts → HoldsBooks S.Store first acts books
         → LeavesOnly first acts (state S.Store books.conn) → KeepsLogged S.Store first acts max result.0.0 logged result.0.1 (L.contents log.old) (L.contents log.new) }
+    ensures lines { (before : D) → KeepsLines D.Disk before file → LosesNoLine D.Disk before result.1 }
     ensures quiet { logged ≡ false → log.new ≡ log.old }
     ensures told { OnOk result.0.1 (Appends (W.contents out.old) (W.contents out.new) (told_port port)) }
 {
@@ -148,6 +153,8 @@ pub fn serve_port_kept<S: Alter + Drop, W: Write, L: Write, K: Keeper<S>>(
     ensures served { IsClean S.Store (books_of house.new)
         → (first : ℤ) (acts : List Act) → IsHistory first acts → HoldsBooks S.Store first acts (books_of house.old)
         → IsPortServed S.Store K.keeps K.begins first acts max (books_of house.old) (books_of house.new) logged result (L.contents log.old) (L.contents log.new) keeper.old keeper.new }
+    ensures loses { (text : List ℕ) → K.has_text keeper.old text → K.has_text keeper.new text }
+    ensures calm { IsTrue (K.is_clean keeper.new) → IsTrue (K.is_clean keeper.old) }
     ensures quiet { logged ≡ false → log.new ≡ log.old }
     ensures told { OnOk result (Appends (W.contents out.old) (W.contents out.new) (told_port port)) }
 {

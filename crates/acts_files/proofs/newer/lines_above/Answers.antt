@@ -1,34 +1,15 @@
-use Rattle.std.proofs.Common.{◌++◌, refl, subst, ◌∙◌, Some, Global}
-use Rattle.std.specs.Prelude.{ℕ, Vec}
+use Rattle.std.proofs.Common.{refl}
 use Rattle.std.proofs.lemmas.Result.{IfOk-weaker}
-use Rattle.std.specs.Io.KnownBytes.{Appends}
-use Rattle.histories.specs.Newer.{newer_text}
 use Rattle.histories.specs.declared.fault.HistoryFault.TheVariants.{Output}
-use Rattle.histories.proofs.Above.{went_above}
-use Rattle.store.proofs.AsBefore.{as_before_then}
-use Rattle.acts_files.proofs.Later.{all_lines}
-use Rattle.acts_files.proofs.Survive.{shown_number}
+use Rattle.acts_files.specs.declared.few_lines.FewLines.{FewLines}
+use Rattle.acts_files.proofs.Few.{next_of}
 use Rattle.acts_files.proofs.newer.lines_above.Goals as goal
 
-pub returns-in-Ok-each_act_above-clause-told : goal.returns-in-Ok-each_act_above-clause-told
-returns-in-Ok-each_act_above-clause-told g c clean first begun newer older history holds done day =
-    let acts = newer ++ older in
-    let soon = c.each_act_above.ensures.clean clean in
-    let shown = c.in-Ok.ensures.shown soon first acts history holds in
-    let h = c.in-Ok-each_act_above.ensures.handed clean first acts history shown.1 in
-    let after = c.each_act_above.new.sink in
-    let p = went_above (λ (v : Vec ℕ Global). Some v.items) first begun acts history (record { alloc = c.args.alloc; day = c.args.day; done = c.args.done; fault = Output; out = c.new.result }) older newer refl done day h.0.rows after h.0.own h.0.handed in (
+pub returns-clause-told : goal.returns-clause-told
+returns-clause-told g c clean first begun newer older history holds whole done day =
+    let h = c.each_act_above-end.ensures.handed clean first _ history holds in
+    let start : FewLines = record { lines = record { alloc = c.args.alloc; day = c.args.day; done = c.args.done; fault = Output; out = c.new.result }; room = c.args.most } in (
       h.1,
-      IfOk-weaker c.whole.result _ _
-          (λ told w. all_lines begun newer older p.0 p.1 after told p.2 p.3 p.4 (subst (λ xs. Appends (Some xs) (Some after.out.items) (newer_text begun p.1 older)) c.new.ensures.items p.5)
-          (w.1 ∙ shown_number g.S.Store first acts c.in-Ok.all c.acts_done.new.self shown) w.0) c.whole.ensures.whole,
+      IfOk-weaker c.next_lines.result _ _
+          (λ lines taken. next_of first begun newer older history c.args.most start c.new.ensures.items done day refl h.0.rows c.each_act_above-end.new.sink c.each_act_above-end.result c.args.all lines h.0.own h.0.handed whole taken) c.next_lines.ensures.next,
     )
-
-pub returns-in-Ok-each_act_above-clause-holds : goal.returns-in-Ok-each_act_above-clause-holds
-returns-in-Ok-each_act_above-clause-holds g c clean first acts history holds =
-    let shown = c.in-Ok.ensures.shown (c.each_act_above.ensures.clean clean) first acts history holds in
-    (c.in-Ok-each_act_above.ensures.handed clean first acts history shown.1).1
-
-pub returns-in-Ok-each_act_above-clause-as_before : goal.returns-in-Ok-each_act_above-clause-as_before
-returns-in-Ok-each_act_above-clause-as_before g c clean =
-    as_before_then _ _ _ (c.acts_done.ensures.as_before (c.each_act_above.ensures.clean clean)) (c.each_act_above.ensures.as_before clean)

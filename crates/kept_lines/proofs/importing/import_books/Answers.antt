@@ -5,6 +5,7 @@ use Rattle.store.specs.Books.{KeepsBooks, LeavesOnly}
 use Rattle.kept_lines.specs.Beside.{IsNotOpenedBeside}
 use Rattle.kept_lines.proofs.Imported.{keeps_more}
 use Rattle.kept_lines.proofs.Opened.{leaves_on}
+use Rattle.acts_files.specs.Kept.{LosesNoLine}
 use Rattle.kept_lines.proofs.importing.import_books.Goals as goal
 
 pub returns-in-Ok-clause-clean : goal.returns-in-Ok-clause-clean
@@ -49,3 +50,9 @@ returns-in-Err-clause-beside g c clean first acts history holds leaves =
       },
       refl,
     )
+
+pub returns-in-Ok-clause-lines : goal.returns-in-Ok-clause-lines
+returns-in-Ok-clause-lines g c = c.import_beside.ensures.lines c.args.disk c.in-Ok.ensures.lines
+
+pub returns-in-Err-clause-lines : goal.returns-in-Err-clause-lines
+returns-in-Err-clause-lines g c = subst (LosesNoLine g.D.Disk c.args.disk) (sym c.not_kept.ensures.disk) c.in-Err.ensures.unopened

@@ -1,3 +1,4 @@
+use Rattle.acts_files.proofs.Same.{same_file, loses_none}
 use Rattle.kept_lines.proofs.importing.open_and_import_kept.Goals as goal
 
 pub returns-in-Ok-clause-clean : goal.returns-in-Ok-clause-clean
@@ -12,3 +13,6 @@ pub returns-in-Ok-clause-beside : goal.returns-in-Ok-clause-beside
 returns-in-Ok-clause-beside g c clean first acts history rows =
     let held = c.in-Ok.ensures.books (c.import_books-done.ensures.clean clean) first acts history rows in
     c.import_books-done.ensures.beside clean first acts history held.0 held.1
+
+pub returns-in-Err-clause-lines : goal.returns-in-Err-clause-lines
+returns-in-Err-clause-lines g c = loses_none g.D.Disk c.args.disk c.args.disk (same_file g.D.Disk c.args.disk)

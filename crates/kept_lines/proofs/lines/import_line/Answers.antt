@@ -7,6 +7,7 @@ use Rattle.machine.specs.Acts.{Act}
 use Rattle.machine.specs.Once.{IsHistory}
 use Rattle.store.specs.Opening.{AreFoundRows}
 use Rattle.kept_lines.specs.Lines.{IsImportedWith, IsImportToldIf, KeepsImported}
+use Rattle.kept_lines.proofs.Losing.{some_loses, none_loses}
 use Rattle.kept_lines.proofs.lines.import_line.Goals as goal
 
 pub returns-in-Some-clause-imported : goal.returns-in-Some-clause-imported
@@ -57,3 +58,9 @@ returns-in-None-clause-told g c =
     let was = sym c.take.ensures.value ∙ c.in-None.is in
     subst (λ a. IfOk done.result (λ w. HasCleanDisk (state g.S.Store w.0) → (first : ℤ) (older : List Act) → IsHistory first older → AreFoundRows first older (state g.S.Store c.args.conn).committed.trees
     → IsImportToldIf g.S.Store a first older (g.F.FilesAt.bytes c.args.files.now c.args.name.now) w.1 w.0 (at c.args.out.now) (at done.new.out))) (sym was) done.ensures.told
+
+pub returns-in-Some-clause-lines : goal.returns-in-Some-clause-lines
+returns-in-Some-clause-lines g c = some_loses g.D.Disk c.args.acts.now _ _ (sym c.take.ensures.value ∙ c.in-Some.is) c.open_and_import_kept-done.ensures.lines
+
+pub returns-in-None-clause-lines : goal.returns-in-None-clause-lines
+returns-in-None-clause-lines g c = none_loses g.D.Disk c.args.acts.now _ (sym c.take.ensures.value ∙ c.in-None.is) c.take.ensures.after

@@ -4,6 +4,7 @@ use Rattle.std.proofs.lemmas.Result.{IfOk-weaker}
 use Rattle.sqlite.specs.Held.{state}
 use Rattle.sqlite.specs.State.{HasCleanDisk}
 use Rattle.kept_lines.specs.Lines.{IsPortToldIf, IsServedWith}
+use Rattle.kept_lines.proofs.Losing.{some_loses, none_loses}
 use Rattle.kept_lines.proofs.lines.serve_line.Goals as goal
 
 pub returns-in-Some-clause-beside : goal.returns-in-Some-clause-beside
@@ -40,3 +41,9 @@ returns-in-None-clause-told g c =
     let at = g.W.Write.contents in
     let was = sym c.take.ensures.value ∙ c.in-None.is in
     subst (λ a. IfOk done.result (λ w. HasCleanDisk (state g.S.Store w.0) → IsPortToldIf a c.args.port (at c.args.out.now) (at done.new.out) w.1)) (sym was) done.ensures.told
+
+pub returns-in-Some-clause-lines : goal.returns-in-Some-clause-lines
+returns-in-Some-clause-lines g c = some_loses g.D.Disk c.args.acts.now _ _ (sym c.take.ensures.value ∙ c.in-Some.is) c.open_and_serve_kept-done.ensures.lines
+
+pub returns-in-None-clause-lines : goal.returns-in-None-clause-lines
+returns-in-None-clause-lines g c = none_loses g.D.Disk c.args.acts.now _ (sym c.take.ensures.value ∙ c.in-None.is) c.take.ensures.after

@@ -1,4 +1,5 @@
 use Rattle.std.proofs.lemmas.Result.{IfOk-weaker, IfErr-weaker}
+use Rattle.acts_files.proofs.Same.{keeps_from, loses_from, loses_none}
 use Rattle.acts_files.proofs.Survive.{none_later}
 use Rattle.kept_lines.proofs.Opened.{day_not_found, not_opened_beside, opened_beside}
 use Rattle.kept_lines.proofs.opening.open_acts.Goals as goal
@@ -22,3 +23,14 @@ returns-in-Ok-clause-survives g c =
 pub returns-in-Err-clause-kept : goal.returns-in-Err-clause-kept
 returns-in-Err-clause-kept g c clean first acts history holds =
     ((c.in-Err.ensures.begun clean first acts history holds).0, tt, day_not_found g.D.Disk first acts c.args.disk c.begun_beside.new.disk c.in-Err.fault history c.in-Err.ensures.fault)
+
+pub returns-in-Ok-clause-lines : goal.returns-in-Ok-clause-lines
+returns-in-Ok-clause-lines g c =
+    IfOk-weaker c.open_beside.result _ _ (λ file is. keeps_from g.D.Disk c.args.disk c.begun_beside.new.disk file c.in-Ok.ensures.same is) c.open_beside.ensures.lines
+
+pub returns-in-Ok-clause-unopened : goal.returns-in-Ok-clause-unopened
+returns-in-Ok-clause-unopened g c =
+    IfErr-weaker c.open_beside.result _ _ (λ e is. loses_from g.D.Disk c.args.disk c.begun_beside.new.disk e.disk c.in-Ok.ensures.same is) c.open_beside.ensures.unopened
+
+pub returns-in-Err-clause-unopened : goal.returns-in-Err-clause-unopened
+returns-in-Err-clause-unopened g c = loses_none g.D.Disk c.args.disk c.begun_beside.new.disk c.in-Err.ensures.same

@@ -7,6 +7,7 @@ use Rattle.service.specs.Serving.{KeepsLogged}
 use Rattle.kept_lines.specs.Kept.{keeps_acts, begins_acts}
 use Rattle.kept_lines.specs.Serving.{IsPortServed, IsServedBeside}
 use Rattle.kept_lines.proofs.Served.{run_logged, served_beside}
+use Rattle.acts_files.specs.Kept.{LosesNoLine}
 use Rattle.kept_lines.proofs.serving.serve_beside.Goals as goal
 
 pub returns-clause-beside : goal.returns-clause-beside
@@ -37,3 +38,8 @@ returns-clause-served g c clean first acts history holds leaves =
     subst (λ h. KeepsLogged s first acts c.args.max h c.args.logged end.result old new) (sym at)
     (run_logged s d first acts first c.args.max c.args.books after c.args.logged end.result old new (record { file = c.args.file }) end.new.keeper leaves
     (subst (λ b. IsPortServed s (keeps_acts d) (begins_acts d) first acts c.args.max b after c.args.logged end.result old new (record { file = c.args.file }) end.new.keeper) c.new-house.ensures served))
+
+pub returns-clause-lines : goal.returns-clause-lines
+returns-clause-lines g c before keeps =
+    let end = c.serve_port_kept-end in
+    subst (LosesNoLine g.D.Disk before) (sym c.into_disk.ensures) (λ clean only lines rest are is. (end.ensures.loses lines (keeps (end.ensures.calm clean) only lines rest are is)).0)

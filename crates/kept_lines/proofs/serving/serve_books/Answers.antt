@@ -6,6 +6,7 @@ use Rattle.kept_lines.specs.Beside.{IsNotOpenedBeside}
 use Rattle.kept_lines.specs.Faults.{fault_of_acts}
 use Rattle.kept_lines.proofs.Opened.{leaves_on}
 use Rattle.kept_lines.proofs.Served.{refused_logged}
+use Rattle.acts_files.specs.Kept.{LosesNoLine}
 use Rattle.kept_lines.proofs.serving.serve_books.Goals as goal
 
 pub returns-in-Ok-clause-clean : goal.returns-in-Ok-clause-clean
@@ -53,3 +54,9 @@ returns-in-Err-clause-beside g c clean first acts history holds leaves =
       refl,
       refl,
     )
+
+pub returns-in-Ok-clause-lines : goal.returns-in-Ok-clause-lines
+returns-in-Ok-clause-lines g c = c.serve_beside.ensures.lines c.args.disk c.in-Ok.ensures.lines
+
+pub returns-in-Err-clause-lines : goal.returns-in-Err-clause-lines
+returns-in-Err-clause-lines g c = subst (LosesNoLine g.D.Disk c.args.disk) (sym c.not_kept.ensures.disk) c.in-Err.ensures.unopened

@@ -1,19 +1,21 @@
-use Rattle.std.proofs.Common.{◌+◌, ◌++◌, length, sym, subst, ap, ◌∙◌, IsTrue}
-use Rattle.histories.specs.Text.{history_text}
-use Rattle.acts_files.specs.Kept.{HasText}
-use Rattle.acts_files.proofs.TextParts.{goes_on}
+use Rattle.std.proofs.Common.{refl, length}
+use Rattle.acts_files.specs.declared.acts_file.ActsFile.{ActsFile}
+use Rattle.acts_files.proofs.Same.{keeps_then, no_more, passed_of, passed_same, same_keeps, text_same}
 use Rattle.acts_files.proofs.acts_file.ActsFile.add.Goals as goal
 
 pub returns-clause-kept : goal.returns-clause-kept
 returns-clause-kept g c begun newer older is done day keeps =
-    let whole = ap (λ t. history_text begun older ++ t) is ∙ sym (goes_on begun newer older) in
-    record {
-      usable = c.in_ok-append.ensures.usable;
-      done = done;
-      day = day;
-      text = λ clean.
-          let had = keeps.text (subst IsTrue c.append.ensures.calm clean) in
-          let has = c.in_ok-append.ensures.kept (history_text begun older) had in
-          subst (λ l. HasText g.D.Disk (history_text begun (newer ++ older)) l c.append.new.disk) (sym c.in-Some.ensures.1)
-          (subst (λ t. HasText g.D.Disk t (c.args.self.now.len + length c.args.lines.now) c.append.new.disk) whole has);
-    }
+    let mid : ActsFile _ = record c.args.self.now { disk = c.file_len.new.disk } in
+    let same = c.file_len.ensures.same in
+    c.put.ensures.kept begun newer older is done day (passed_same g.D.Disk begun older c.args.self.now mid (passed_of g.D.Disk begun older c.args.self.now keeps) same refl refl refl)
+    (no_more g.D.Disk begun older c.args.self.now mid (length c.args.lines.now) keeps same refl)
+
+pub returns-clause-few : goal.returns-clause-few
+returns-clause-few g c text has clean =
+    let same = c.file_len.ensures.same in
+    c.put.ensures.few text (λ now. text_same g.D.Disk text c.args.self.now.len c.args.self.now.disk c.file_len.new.disk same (has (same.clean now))) clean
+
+pub returns-clause-loses : goal.returns-clause-loses
+returns-clause-loses g c =
+    let mid : ActsFile _ = record c.args.self.now { disk = c.file_len.new.disk } in
+    keeps_then g.D.Disk c.args.self.now mid c.put.new.self (same_keeps g.D.Disk c.args.self.now mid c.file_len.ensures.same refl) c.put.ensures.loses

@@ -2,3 +2,9 @@ use Rattle.kept_lines.proofs.kept_acts.KeptActsKeeper.bring_up.Goals as goal
 
 pub returns-in-Ok-clause-kept : goal.returns-in-Ok-clause-kept
 returns-in-Ok-clause-kept g c clean first begun newer older history holds keeps = (c.in-Ok.ensures.kept clean first begun newer older history holds keeps).1
+
+pub returns-in-Ok-clause-loses : goal.returns-in-Ok-clause-loses
+returns-in-Ok-clause-loses g c = c.bring_up.ensures.loses.kept
+
+pub returns-in-Err-clause-loses : goal.returns-in-Err-clause-loses
+returns-in-Err-clause-loses g c = c.bring_up.ensures.loses.kept
