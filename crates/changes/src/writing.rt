@@ -5,11 +5,12 @@ ghost use Rattle.sqlite.specs.State.{HasCleanDisk, Survives, KeepsCommit};
 ghost use Rattle.sqlite.specs.Held.{state};
 ghost use Rattle.table_words.specs.Steps.{IsReady, Goes};
 ghost use Rattle.table_words.specs.declared.error.TableFault.TheVariants.{Foreign};
-ghost use Rattle.keyed_rows.specs.Writes.{Writes};
+ghost use Rattle.keyed_rows.specs.Writes.{Writes, each_written};
+ghost use Rattle.table_words.specs.Typed.{with_line, with_reserved, without_reserved};
 ghost use Rattle.rules.specs.Slices.{AreOnce, applied};
-ghost use Rattle.changes.specs.Written.{names_written, units_written, lots_written, goods_written, lines_written, stage_emptied, shares_written, orders_written, history_written, change_written};
+ghost use Rattle.changes.specs.Written.{rows_written, names_written, units_written, lots_written, goods_written, lines_written, stage_emptied, shares_written, orders_written, history_written, change_written};
 
-use crate::rows::{add_rows, put_rows, write_rows};
+use crate::rows::{add_many_rows, add_rows, put_new_rows, put_rows, write_new_rows, write_rows};
 use goods_tables::bins::Bins;
 use goods_tables::items::Items;
 use goods_tables::least::Least;
@@ -28,6 +29,7 @@ use order_tables::staged::{Staged, empty_stage};
 use order_tables::urgents::Urgents;
 use rules::{Change, Dropped, Put};
 use sqlite::{Alter, Transaction};
+use std::alloc::Global;
 use table_words::error::TableFault;
 use values::Name;
 
@@ -104,8 +106,25 @@ fn write_goods<S: Alter>(
     write_lots(tx, put, dropped, brings_lots(put, act))
 }
 
+/// Lines of orders.
+fn put_lines<S: Alter>(
+    alloc: Global,
+    tx: &mut Transaction<'_, S>,
+    put: &Put,
+    are_new: bool,
+) -> Result<(), TableFault>
+    ensures same_reference { tx.new.conn.ghost_name ≡ tx.old.conn.ghost_name }
+    ensures writes { Writes (each_written with_line put.now.lines) (state S.Store tx.old.conn.now) (state S.Store tx.new.conn.now) result }
+{
+    if are_new {
+        return put_new_rows::<Lines, S>(alloc, tx, &put.lines);
+    }
+    put_rows::<Lines, S>(tx, &put.lines, false)
+}
+
 /// Orders, which of them are urgent, and their lines.
 fn write_lines<S: Alter>(
+    alloc: Global,
     tx: &mut Transaction<'_, S>,
     put: &Put,
     are_new: bool,
@@ -115,7 +134,7 @@ fn write_lines<S: Alter>(
 {
     put_rows::<Orders, S>(tx, &put.orders, are_new)?;
     add_rows::<Urgents, S>(tx, &put.urgents)?;
-    put_rows::<Lines, S>(tx, &put.lines, are_new)
+    put_lines(alloc, tx, put, are_new)
 }
 
 /// The stage of an order, if there is one to empty: one statement for all its rows.
@@ -129,8 +148,26 @@ fn write_stage<S: Alter>(tx: &mut Transaction<'_, S>, stage: Option<Name>) -> Re
     }
 }
 
+/// What is reserved for orders. What a new order takes that is not urgent is new: it changes no reservation of another.
+fn write_reserved<S: Alter>(
+    alloc: Global,
+    tx: &mut Transaction<'_, S>,
+    put: &Put,
+    dropped: &Dropped,
+    are_new: bool,
+) -> Result<(), TableFault>
+    ensures same_reference { tx.new.conn.ghost_name ≡ tx.old.conn.ghost_name }
+    ensures writes { Writes (rows_written with_reserved (λ r. without_reserved r.order r.lot) put.now.reserved dropped.now.reserved) (state S.Store tx.old.conn.now) (state S.Store tx.new.conn.now) result }
+{
+    if are_new && put.urgents.as_slice().is_empty() {
+        return write_new_rows::<Reserved, S>(alloc, tx, &put.reserved, &dropped.reserved);
+    }
+    write_rows::<Reserved, S>(tx, &put.reserved, &dropped.reserved, are_new)
+}
+
 /// What is staged and reserved for orders.
 fn write_shares<S: Alter>(
+    alloc: Global,
     tx: &mut Transaction<'_, S>,
     put: &Put,
     dropped: &Dropped,
@@ -141,11 +178,12 @@ fn write_shares<S: Alter>(
 {
     write_stage(tx, dropped.stage)?;
     write_rows::<Staged, S>(tx, &put.staged, &dropped.staged, true)?;
-    write_rows::<Reserved, S>(tx, &put.reserved, &dropped.reserved, are_new)
+    write_reserved(alloc, tx, put, dropped, are_new)
 }
 
 /// Orders.
 fn write_orders<S: Alter>(
+    alloc: Global,
     tx: &mut Transaction<'_, S>,
     put: &Put,
     dropped: &Dropped,
@@ -155,35 +193,44 @@ fn write_orders<S: Alter>(
     ensures writes { Writes (orders_written put.now dropped.now) (state S.Store tx.old.conn.now) (state S.Store tx.new.conn.now) result }
 {
     let are_new = takes_orders(put, act);
-    write_lines(tx, put, are_new)?;
-    write_shares(tx, put, dropped, are_new)
+    write_lines(alloc, tx, put, are_new)?;
+    write_shares(alloc, tx, put, dropped, are_new)
 }
 
 /// What has gone.
-fn write_history<S: Alter>(tx: &mut Transaction<'_, S>, put: &Put) -> Result<(), TableFault>
+fn write_history<S: Alter>(
+    alloc: Global,
+    tx: &mut Transaction<'_, S>,
+    put: &Put,
+) -> Result<(), TableFault>
     ensures same_reference { tx.new.conn.ghost_name ≡ tx.old.conn.ghost_name }
     ensures writes { Writes (history_written put.now) (state S.Store tx.old.conn.now) (state S.Store tx.new.conn.now) result }
 {
     add_rows::<Shipments, S>(tx, &put.shipments)?;
-    add_rows::<Shiplines, S>(tx, &put.shiplines)?;
-    add_rows::<Cards, S>(tx, &put.cards)
+    add_many_rows::<Shiplines, S>(alloc, tx, &put.shiplines)?;
+    add_many_rows::<Cards, S>(alloc, tx, &put.cards)
 }
 
 /// Every table in turn.
-fn write_tables<S: Alter>(tx: &mut Transaction<'_, S>, change: &Change) -> Result<(), TableFault>
+fn write_tables<S: Alter>(
+    alloc: Global,
+    tx: &mut Transaction<'_, S>,
+    change: &Change,
+) -> Result<(), TableFault>
     ensures same_reference { tx.new.conn.ghost_name ≡ tx.old.conn.ghost_name }
     ensures writes { Writes (change_written change.now) (state S.Store tx.old.conn.now) (state S.Store tx.new.conn.now) result }
 {
     let act = change.meta.acts;
     write_goods(tx, &change.put, &change.dropped, act)?;
-    write_orders(tx, &change.put, &change.dropped, act)?;
-    write_history(tx, &change.put)?;
+    write_orders(alloc, tx, &change.put, &change.dropped, act)?;
+    write_history(alloc, tx, &change.put)?;
     put::<Meta, S>(tx, &change.meta, false)
 }
 
 /// Writes a change: drops its rows and puts its rows, and the row of `meta`. Of rows under one
 /// key the last stands.
 pub fn write_change<S: Alter>(
+    alloc: Global,
     tx: &mut Transaction<'_, S>,
     change: &Change,
 ) -> Result<(), TableFault>
@@ -196,5 +243,5 @@ pub fn write_change<S: Alter>(
     ensures survives { Survives (state S.Store tx.old.conn.now) (state S.Store tx.new.conn.now) (λ _. ⊥) }
     ensures never_foreign { IfErr result (λ e. e ≢ Foreign) }
 {
-    write_tables(tx, change)
+    write_tables(alloc, tx, change)
 }

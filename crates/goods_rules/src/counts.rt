@@ -15,8 +15,8 @@ use row_rules::cards::lot_units;
 use row_rules::change_parts::{meta_next, none_dropped, none_put, number_seen};
 use row_rules::first_refusal::first_of;
 use row_rules::goods_seen::{sees_bin, sees_item};
-use row_rules::plans::{ItemRows, item_rows};
-use row_rules::replanning::{Replanned, replan_item};
+use row_rules::plans::{SupplyRows, item_rows};
+use row_rules::replanning::{Replanned, replan_supplies};
 use row_rules::stock::{sees_lot, stock_gone, stock_put, stock_rows_with, units_in_bin};
 use row_rules::{Change, Dropped, Put, Slice};
 use std::alloc::{AllocError, Global};
@@ -211,11 +211,11 @@ fn correction_replanned(
 ) -> Result<Replanned, AllocError>
     ensures { IfOk result (λ r. stock.now ≡ stock_corrected slice.now made.now.lot made.now.bin made.now.left → r ≡ correction_replanned_lem slice.now made.now.lot made.now.bin made.now.left) }
 {
-    let rows = ItemRows {
+    let rows = SupplyRows {
         stock,
-        ..item_rows(&slice.rows)
+        ..item_rows(&slice.rows).supplies
     };
-    replan_item(alloc, slice, &made.lot.gtin, slice.meta.day, &rows)
+    replan_supplies(alloc, slice, &made.lot.gtin, &rows)
 }
 
 // The card line of units written on or off, after which these are the stock rows.

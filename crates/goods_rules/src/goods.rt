@@ -15,8 +15,8 @@ use row_rules::change_parts::{meta_next, none_dropped, none_put, number_seen, on
 use row_rules::first_refusal::first_of;
 use row_rules::goods_seen::{lot_seen, sees_bin, sees_item, sees_recall};
 use row_rules::list_parts::{in_front, push_if};
-use row_rules::plans::{ItemRows, item_rows};
-use row_rules::replanning::{Replanned, replan_item};
+use row_rules::plans::{SupplyRows, item_rows};
+use row_rules::replanning::{Replanned, replan_supplies};
 use row_rules::row_search::{rows_without, units_with};
 use row_rules::status::is_expired;
 use row_rules::stock::units_in_bin;
@@ -153,12 +153,12 @@ fn receive_replanned(
     ensures { IfOk result (λ c. stock.now ≡ stock_rows_after_lem slice.now r.now → c ≡ receive_replanned_lem slice.now r.now) }
 {
     let lots = lot_rows_after(alloc, slice, r)?;
-    let rows = ItemRows {
+    let rows = SupplyRows {
         lots: lots.as_slice(),
         stock,
-        ..item_rows(&slice.rows)
+        ..item_rows(&slice.rows).supplies
     };
-    replan_item(alloc, slice, &r.lot.gtin, slice.meta.day, &rows)
+    replan_supplies(alloc, slice, &r.lot.gtin, &rows)
 }
 
 // The rows of lots with the lot that is received, if it is new.

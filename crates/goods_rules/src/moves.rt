@@ -10,8 +10,8 @@ use commands::{Listed, Movement, Refusal, StockRow};
 use row_rules::change_parts::{meta_next, none_dropped, none_put, plain_reply};
 use row_rules::first_refusal::first_of;
 use row_rules::goods_seen::{sees_bin, sees_item};
-use row_rules::plans::{ItemRows, item_rows};
-use row_rules::replanning::{Replanned, replan_item};
+use row_rules::plans::{SupplyRows, item_rows};
+use row_rules::replanning::{Replanned, replan_supplies};
 use row_rules::stock::{sees_lot, stock_gone, stock_put, stock_rows_with, units_in_bin};
 use row_rules::{Change, Dropped, Put, Slice};
 use std::alloc::{AllocError, Global};
@@ -84,11 +84,11 @@ fn move_replanned(alloc: Global, slice: &Slice, m: &Movement) -> Result<Replanne
     ensures { IfOk result (λ r. r ≡ move_replanned_lem slice.now m.now) }
 {
     let stock = stock_rows_moved(alloc, slice, m)?;
-    let rows = ItemRows {
+    let rows = SupplyRows {
         stock: stock.as_slice(),
-        ..item_rows(&slice.rows)
+        ..item_rows(&slice.rows).supplies
     };
-    replan_item(alloc, slice, &m.lot.gtin, slice.meta.day, &rows)
+    replan_supplies(alloc, slice, &m.lot.gtin, &rows)
 }
 
 // The stock rows after a move.

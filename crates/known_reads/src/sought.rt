@@ -74,6 +74,10 @@ where
 {
     let mut found = Vec::new(alloc);
     for key in keys {
+        if let Some(rows) = known.rows_of(key) {
+            found.extend_from_slice(rows)?;
+            continue;
+        }
         let rows = seek_known::<T, B, K, S>(alloc, tx, known, key)?;
         found.extend_from_slice(rows.as_slice())?;
     }

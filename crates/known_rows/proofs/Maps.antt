@@ -1,12 +1,11 @@
 -- What the calls of a map make of what is known.
 use Rattle.std.proofs.Common.{◌≡◌, Bool, true, false, cond, ◌⊎◌, inl, inr, List, [], ◌∷◌, Vec, Global, refl, sym, ap, subst, ◌∙◌}
-use Rattle.std.specs.Prelude.{if◌then◌else◌, ◌||◌, Option, Some, None, IfSome, Result, Ok, Err, OnOk, OnErr, is_ok}
+use Rattle.std.specs.Prelude.{if◌then◌else◌, ◌||◌, Option, Some, None, IfSome, Result, Ok, Err, OnOk, is_err}
 use Rattle.std.specs.List.{list_any}
 use Rattle.std.specs.Option.{option_map}
 use Rattle.std.specs.Ordering.{is_eq}
 use Rattle.std.specs.declared.cmp.Ordering.{Ordering}
-use Rattle.std.specs.BTreeMap.{get, get_by, is_at, IsUnchanged, Updates}
-use Rattle.std.specs.Map.{lookup}
+use Rattle.std.specs.BTreeMap.{get, get_by, is_at}
 use Rattle.known_rows.specs.KnownRows.{RowMap, rows_at, KnowsNone, IsPart, LearnsAt, ForgetsAt, ForgetsBy, ChangesAt, ChangesBy, each_changed}
 
 abbrev items_of : {R : Type 0} → Option (Vec R Global) → Option (List R)
@@ -79,27 +78,33 @@ module _ {K R : Type 0} (cmp : K → K → Ordering) where
         chosen true e = tt
         chosen false e = other q (subst (λ x. is_eq (cmp x q) ≡ false) is e) (rows_at cmp old q) refl
 
-    -- or it is changed
-    pub changes_put : ((a b : K) → is_eq (cmp a b) ≡ true → a ≡ b) → (mid new : RowMap K R) (v w : Vec R Global) → Some v ≡ get_by (cmp own) old → w.items ≡ change v.items → Becomes own None old mid → Becomes own (Some w) mid new → ChangesAt cmp k change old new
-    changes_put one mid new v w was value gone becomes q = subst (Changed q) (sym (ap items_of (becomes q))) (chosen (is_eq (cmp own q)) refl)
+    -- or it is changed in its place
+    pub changes_in : ((a b : K) → is_eq (cmp a b) ≡ true → a ≡ b) → (new : RowMap K R) (v w : Vec R Global) → Some v ≡ get_by (cmp own) old → w.items ≡ change v.items → Becomes own (Some w) old new → ChangesAt cmp k change old new
+    changes_in one new v w was value becomes q = subst (Changed q) (sym (ap items_of (becomes q))) (chosen (is_eq (cmp own q)) refl)
       where
-        chosen : (b : Bool) → is_eq (cmp own q) ≡ b → Changed q (items_of (cond b (Some w) (get cmp mid q)))
+        chosen : (b : Bool) → is_eq (cmp own q) ≡ b → Changed q (items_of (cond b (Some w) (get cmp old q)))
         chosen true e = (
           v.items,
           sym (ap items_of (subst (λ x. Some v ≡ get_by (cmp x) old) (one own q e) was)),
           value ∙ ap (λ b. if b then change v.items else v.items) (sym (subst (λ x. is_eq (cmp x q) ≡ true) is e)),
         )
-        chosen false e = subst (Changed q) (sym (ap items_of (gone q))) (left (is_eq (cmp own q)) e)
-          where
-            left : (b : Bool) → b ≡ false → Changed q (items_of (cond b None (get cmp old q)))
-            left true f = tt
-            left false f = other q (subst (λ x. is_eq (cmp x q) ≡ false) is e) (rows_at cmp old q) refl
+        chosen false e = other q (subst (λ x. is_eq (cmp x q) ≡ false) is e) (rows_at cmp old q) refl
 
-    -- it was taken out, and is put back changed, if there is memory for it
-    pub changes_done : {X E : Type 0} → ((a b : K) → is_eq (cmp a b) ≡ true → a ≡ b) → (mid new : RowMap K R) (v w : Vec R Global) (r : Result X E) → Some v ≡ get_by (cmp own) old → w.items ≡ change v.items → Becomes own None old mid
-        → OnOk r (Updates cmp mid new own (Some w)) → OnErr r (IsUnchanged mid new) → ChangesAt cmp k change old new
-    changes_done one mid new v w (Ok x) was value gone back same = changes_put one mid new v w was value gone back.0
-    changes_done one mid new v w (Err e) was value gone back same = changes_gone new (λ q. ap (λ es. lookup (is_at (cmp q)) es) same ∙ gone q)
+    -- nothing is under the key
+    pub changes_none : ((a b : K) → is_eq (cmp a b) ≡ true → a ≡ b) → (new : RowMap K R) → None ≡ get_by (cmp own) old → ((q : K) → get cmp new q ≡ get cmp old q) → ChangesAt cmp k change old new
+    changes_none one new none same q = subst (Changed q) (sym (ap items_of (same q))) (chosen (is_eq (cmp own q)) refl)
+      where
+        chosen : (b : Bool) → is_eq (cmp own q) ≡ b → Changed q (rows_at cmp old q)
+        chosen true e = subst (Changed q) (ap items_of (subst (λ x. None ≡ get_by (cmp x) old) (one own q e) none)) tt
+        chosen false e = other q (subst (λ x. is_eq (cmp x q) ≡ false) is e) (rows_at cmp old q) refl
+
+    -- it was changed, and then it is gone
+    pub gone_after : (mid new : RowMap K R) (w : Vec R Global) → Becomes own (Some w) old mid → Becomes own None mid new → Becomes own None old new
+    gone_after mid new w put gone q = gone q ∙ ap (λ x. cond (is_at (cmp own) q) None x) (put q) ∙ twice (is_at (cmp own) q)
+      where
+        twice : (b : Bool) → cond b None (cond b (Some w) (get cmp old q)) ≡ cond b None (get cmp old q)
+        twice true = refl
+        twice false = refl
 
   -- Rows in turn
 
@@ -171,7 +176,27 @@ module _ {K R : Type 0} (cmp : K → K → Ordering) (key : R → K) where
       gone None h = tt
       gone (Some now) h = (h.0, sym h.1)
 
--- what a call answers that succeeded
-pub ok_value : {X E : Type 0} (P : Type 0) (r : Result X E) → is_ok r ≡ true → OnOk r P → P
+  -- to forget the lists of rows is to change them
+
+  module _ (change : R → List R → List R) where
+    unnamed : (q : K) (rows : List R) (before : List R) → named q rows ≡ false → each_changed cmp key change rows q before ≡ before
+    unnamed q [] before h = refl
+    unnamed q (r ∷ rows) before h =
+        let two = neither (is_eq (cmp (key r) q)) (named q rows) h in
+        ap (λ b. each_changed cmp key change rows q (if b then change r before else before)) two.0 ∙ unnamed q rows before two.1
+      where
+        neither : (a b : Bool) → a || b ≡ false → (a ≡ false) × (b ≡ false)
+        neither true b e = let no : true ≡ false = e in cc
+        neither false b e = (refl, e)
+
+    pub forgotten : (all : List R) (old new : RowMap K R) → ForgetsBy cmp key all old new → ChangesBy cmp key change all old new
+    forgotten all old new forgets q = left (rows_at cmp new q) (forgets q)
+      where
+        left : (x : Option (List R)) → IfSome x (λ found. (rows_at cmp old q ≡ Some found) × (named q all ≡ false)) → IfSome x (λ found. (before : List R) × (rows_at cmp old q ≡ Some before) × (found ≡ each_changed cmp key change all q before))
+        left None h = tt
+        left (Some found) h = (found, h.0, sym (unnamed q all found h.1))
+
+-- what a call answers that did not fail
+pub ok_value : {X E : Type 0} (P : Type 0) (r : Result X E) → is_err r ≡ false → OnOk r P → P
 ok_value P (Ok x) is h = h
 ok_value P (Err e) is h = absurd (let no = is in cc)

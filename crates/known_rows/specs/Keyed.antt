@@ -9,6 +9,7 @@ use Rattle.values.specs.declared.lot_key.LotKey.{LotKey}
 use Rattle.commands.specs.declared.rows.LineRow.{LineRow}
 use Rattle.commands.specs.declared.rows.LotRow.{LotRow}
 use Rattle.commands.specs.declared.rows.OrderRow.{OrderRow}
+use Rattle.commands.specs.declared.rows.ReservedRow.{ReservedRow}
 use Rattle.commands.specs.declared.rows.StagedRow.{StagedRow}
 use Rattle.commands.specs.declared.rows.StockRow.{StockRow}
 use Rattle.commands.specs.declared.rows.UrgentRow.{UrgentRow}
@@ -47,6 +48,10 @@ same_stock_row a b = same_lot_id a.lot b.lot && bytes_eq a.bin b.bin
 -- units of one lot staged for one order
 abbrev pub same_staged_row : StagedRow → StagedRow → Bool
 same_staged_row a b = bytes_eq a.order b.order && same_lot_id a.lot b.lot
+
+-- or reserved for it
+abbrev pub same_reserved_row : ReservedRow → ReservedRow → Bool
+same_reserved_row a b = bytes_eq a.order b.order && same_lot_id a.lot b.lot
 
 -- one lot
 abbrev pub same_lot_row : LotRow → LotRow → Bool

@@ -1,6 +1,6 @@
 //! Keys that tell exactly, and rows that have a key among others.
 
-use commands::{LineRow, LotRow, OrderRow, StagedRow, StockRow, UrgentRow};
+use commands::{LineRow, LotRow, OrderRow, ReservedRow, StagedRow, StockRow, UrgentRow};
 use slice_lists::LineKey;
 use values::{LotKey, TextKey};
 
@@ -95,6 +95,16 @@ impl KeyedRow for StagedRow {
     ghost use Rattle.known_rows.specs.Keyed.{same_staged_row};
 
     ghost same_row = { same_staged_row };
+
+    fn is_same(&self, other: &Self) -> bool {
+        self.order == other.order && self.lot == other.lot
+    }
+}
+
+impl KeyedRow for ReservedRow {
+    ghost use Rattle.known_rows.specs.Keyed.{same_reserved_row};
+
+    ghost same_row = { same_reserved_row };
 
     fn is_same(&self, other: &Self) -> bool {
         self.order == other.order && self.lot == other.lot

@@ -15,6 +15,9 @@ use std::marker::PhantomData;
 /// The weight above which all is forgotten. Each list of rows weighs 1, and each of its rows 1 more.
 pub const WEIGHT_MAX: u64 = 65_536;
 
+/// Where more rows than these change, the lists that they are of are forgotten: each row walks its list.
+pub const FEW: usize = 256;
+
 /// Lists of rows, each as it was found, by what they were sought by. That a list is empty is known too.
 #[derive(Drop)]
 pub struct KnownRows<B: Copy, K: KeyOf<B>, R: Has<B>> {
@@ -23,6 +26,11 @@ pub struct KnownRows<B: Copy, K: KeyOf<B>, R: Has<B>> {
     pub weight: u64,
     pub alloc: Global,
     pub of: PhantomData<B>,
+}
+
+// What a list weighs.
+fn weight_of<R>(rows: &[R]) -> u64 {
+    (rows.len() as u64).saturating_add(1)
 }
 
 impl<B: Copy, K: KeyOf<B>, R: Has<B>> KnownRows<B, K, R> {
@@ -52,7 +60,9 @@ impl<B: Copy, K: KeyOf<B>, R: Has<B>> KnownRows<B, K, R> {
     pub fn forget(&mut self, by: &B)
         ensures { ForgetsAt K.cmp (K.key by.now) self.old.rows self.new.rows }
     {
-        self.rows.remove(&K::of(by));
+        if let Some(rows) = self.rows.remove(&K::of(by)) {
+            self.weight = self.weight.saturating_sub(weight_of(rows.as_slice()));
+        }
     }
 
     /// Forgets what is known of the rows that are sought with one of these. It takes no memory.
@@ -79,8 +89,10 @@ impl<B: Copy, K: KeyOf<B>, R: Has<B>> KnownRows<B, K, R> {
         ensures { LearnsAt K.cmp (K.key by.now) rows.items self.old.rows self.new.rows }
     {
         self.make_room();
-        self.weight = self.weight.saturating_add(rows.len() as u64 + 1);
-        let _ = self.rows.insert(K::of(by), rows);
+        self.weight = self.weight.saturating_add(weight_of(rows.as_slice()));
+        if let Ok(Some(before)) = self.rows.insert(K::of(by), rows) {
+            self.weight = self.weight.saturating_sub(weight_of(before.as_slice()));
+        }
     }
 }
 
@@ -91,12 +103,15 @@ impl<B: Copy, K: KeyOf<B> + ExactKey, R: Has<B> + KeyedRow> KnownRows<B, K, R> {
         ensures { ChangesAt K.cmp (K.key (R.of_row row.now)) (with_put R.same_row row.now) self.old.rows self.new.rows }
     {
         let key = K::of(&row.value());
-        let Some(mut rows) = self.rows.remove(&key) else {
+        let Some(rows) = self.rows.get_mut(&key) else {
             return;
         };
-        self.weight = self.weight.saturating_add(1);
-        if put_in::<R>(&mut rows, row).is_ok() {
-            let _ = self.rows.insert(key, rows);
+        let before = weight_of(rows.as_slice());
+        let done = put_in::<R>(rows, row);
+        let after = weight_of(rows.as_slice());
+        self.weight = self.weight.saturating_add(after).saturating_sub(before);
+        if done.is_err() {
+            self.rows.remove(&key);
         }
     }
 
@@ -105,26 +120,36 @@ impl<B: Copy, K: KeyOf<B> + ExactKey, R: Has<B> + KeyedRow> KnownRows<B, K, R> {
         ensures { ChangesAt K.cmp (K.key (R.of_row row.now)) (without_row R.same_row row.now) self.old.rows self.new.rows }
     {
         let key = K::of(&row.value());
-        let Some(mut rows) = self.rows.remove(&key) else {
+        let Some(rows) = self.rows.get_mut(&key) else {
             return;
         };
-        drop_from::<R>(&mut rows, row);
-        let _ = self.rows.insert(key, rows);
+        let before = weight_of(rows.as_slice());
+        drop_from::<R>(rows, row);
+        let after = weight_of(rows.as_slice());
+        self.weight = self.weight.saturating_add(after).saturating_sub(before);
     }
 
-    /// Each of these rows takes its place, one after another.
+    /// Each of these rows takes its place, one after another. Where there are many, the lists that they are of are forgotten.
     pub fn put_all(&mut self, rows: &[R])
         ensures { ChangesBy K.cmp (λ r. K.key (R.of_row r)) (with_put R.same_row) rows.now self.old.rows self.new.rows }
     {
+        if rows.len() > FEW {
+            self.forget_all(rows);
+            return;
+        }
         for row in rows {
             self.put(row);
         }
     }
 
-    /// The rows that have the keys of these go, one after another.
+    /// The rows that have the keys of these go, one after another. Where there are many, the lists that they are of are forgotten.
     pub fn drop_all(&mut self, rows: &[R])
         ensures { ChangesBy K.cmp (λ r. K.key (R.of_row r)) (without_row R.same_row) rows.now self.old.rows self.new.rows }
     {
+        if rows.len() > FEW {
+            self.forget_all(rows);
+            return;
+        }
         for row in rows {
             self.drop_row(row);
         }

@@ -15,7 +15,7 @@ use commands::{LeastRow, Listed, LotRow, MetaRow, ReplyField, Short, StagedRow, 
 use label::BusinessDay;
 use row_rules::change_parts::{none_dropped, none_put, number_seen};
 use row_rules::list_parts::push_if;
-use row_rules::plans::{ItemRows, item_rows};
+use row_rules::plans::{DemandRows, ItemRows, SupplyRows, item_rows};
 use row_rules::replanning::{Replanned, replan_items};
 use row_rules::row_index::{RowsByText, by_text};
 use row_rules::row_search::{find_row, has_row, values_of};
@@ -237,13 +237,18 @@ fn replan_on(
     let staged = staged_kept_on(alloc, slice, day, least)?;
     let bins = bins_with_returns(alloc, slice)?;
     let stock = stock_on(alloc, slice, day, least)?;
-    let rows = ItemRows {
+    let before = item_rows(&slice.rows);
+    let demands = DemandRows {
         staged: staged.as_slice(),
+        ..before.demands
+    };
+    let supplies = SupplyRows {
         bins: bins.as_slice(),
         stock: stock.as_slice(),
         least,
-        ..item_rows(&slice.rows)
+        ..before.supplies
     };
+    let rows = ItemRows { demands, supplies };
     replan_items(alloc, slice, gtins.as_slice(), day, &rows)
 }
 

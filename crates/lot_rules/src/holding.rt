@@ -10,8 +10,8 @@ use commands::{Listed, LotRow, RecallRow, Refusal};
 use row_rules::change_parts::{meta_next, none_dropped, none_put, number_seen, one, plain_reply};
 use row_rules::first_refusal::first_of;
 use row_rules::goods_seen::{lot_seen, sees_hold, sees_item, sees_recall};
-use row_rules::plans::{ItemRows, item_rows};
-use row_rules::replanning::{Replanned, replan_item};
+use row_rules::plans::{SupplyRows, item_rows};
+use row_rules::replanning::{Replanned, replan_supplies};
 use row_rules::same::Same;
 use row_rules::stock::sees_lot;
 use row_rules::{Change, Dropped, Put, Slice};
@@ -138,11 +138,11 @@ fn release_replanned(
 ) -> Result<Replanned, AllocError>
     ensures { IfOk result (λ r. lots.now ≡ lot_rows_with_hold_lem slice.now lot.now false → r ≡ release_replanned_lem slice.now lot.now) }
 {
-    let rows = ItemRows {
+    let rows = SupplyRows {
         lots,
-        ..item_rows(&slice.rows)
+        ..item_rows(&slice.rows).supplies
     };
-    replan_item(alloc, slice, &lot.gtin, slice.meta.day, &rows)
+    replan_supplies(alloc, slice, &lot.gtin, &rows)
 }
 
 // Hold

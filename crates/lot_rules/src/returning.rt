@@ -10,7 +10,7 @@ use commands::{
     BinKind, BinRow, Listed, LotRow, RecallRow, ReplyField, Short, StagedRow, StockRow, reply,
 };
 use row_rules::change_parts::{meta_next, none_dropped, none_put, number_seen};
-use row_rules::plans::{ItemRows, item_rows};
+use row_rules::plans::{DemandRows, ItemRows, SupplyRows, item_rows};
 use row_rules::replanning::{Replanned, replan_item};
 use row_rules::row_search::{rows_with, rows_without, units_with};
 use row_rules::stock::{stock_put, stock_rows_with, units_among, units_in_bin};
@@ -126,14 +126,19 @@ pub fn returning_replanned(
     let staged = staged_kept(alloc, slice, lot)?;
     let bins = bins_with_returns(alloc, slice)?;
     let stock = stock_with_returned(alloc, slice, lot)?;
-    let rows = ItemRows {
+    let before = item_rows(&slice.rows);
+    let demands = DemandRows {
         staged: staged.as_slice(),
+        ..before.demands
+    };
+    let supplies = SupplyRows {
         lots,
         recalls,
         bins: bins.as_slice(),
         stock: stock.as_slice(),
-        ..item_rows(&slice.rows)
+        ..before.supplies
     };
+    let rows = ItemRows { demands, supplies };
     replan_item(alloc, slice, &lot.gtin, slice.meta.day, &rows)
 }
 

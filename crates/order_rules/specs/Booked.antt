@@ -10,8 +10,8 @@ use Rattle.row_rules.specs.Seen.{capped, number_seen, staged_units}
 use Rattle.row_rules.specs.OpenLines.{open_units_among}
 use Rattle.row_rules.specs.Status.{earliest_seen}
 use Rattle.row_rules.specs.Plans.{supplies_seen, plan_within, named_rows}
-use Rattle.row_rules.specs.Indexed.{IsIndexed}
-use Rattle.row_rules.specs.declared.indexed.IndexedRows.{IndexedRows}
+use Rattle.row_rules.specs.Indexed.{AreSuppliesIndexed}
+use Rattle.row_rules.specs.declared.indexed.SuppliesIndexed.{SuppliesIndexed}
 use Rattle.row_rules.specs.declared.slice.Slice.{Slice}
 
 -- what open orders have ordered of the item and not got
@@ -44,8 +44,8 @@ abbrev pub line_short : Slice → OrderLine → ℕ
 line_short s l = l.qty - reserved_for (number_seen s) (plan_booked s l)
 
 -- the rows of the slice that tell supplies, indexed
-pub record IsIndexOf (s : Slice) (m : IndexedRows) : Type 0 where
-  pub indexed : IsIndexed m
+pub record IsIndexOf (s : Slice) (m : SuppliesIndexed) : Type 0 where
+  pub indexed : AreSuppliesIndexed m
   pub day : m.day ≡ s.meta.day
   pub lots : m.rows.lots.now ≡ s.rows.lots
   pub recalls : m.rows.recalls.now ≡ s.rows.recalls

@@ -10,9 +10,9 @@ use commands::{LineRow, Listed, NewOrder, OrderLine, OrderRow, OrderState, Reser
 use plan::{Demand, Plan};
 use row_rules::Slice;
 use row_rules::change_parts::number_seen;
-use row_rules::indexed::{IndexedRows, indexed_rows, supplies_of_item};
+use row_rules::indexed::{SuppliesIndexed, supplies_indexed, supplies_of_item};
 use row_rules::open_lines::sum_of_open_units;
-use row_rules::plans::{ItemRows, item_rows, named_rows, plan_with_last};
+use row_rules::plans::{item_rows, named_rows, plan_with_last};
 use row_rules::row_search::units_with;
 use std::alloc::{AllocError, Global};
 use values::{Gtin, Name};
@@ -66,8 +66,8 @@ fn line_rows(alloc: Global, order: &Name, lines: &[OrderLine]) -> Result<Vec<Lin
     Ok(rows)
 }
 
-// What these lines of an order reserve and are short of. The rows are indexed once for all lines;
-// those of orders tell of no supply, and are left out.
+// What these lines of an order reserve and are short of. The rows that tell what there
+// is of their items are indexed once for all lines.
 fn book_lines(
     alloc: Global,
     slice: &Slice,
@@ -77,21 +77,15 @@ fn book_lines(
     ensures put { IfOk result (λ b. b.put ≡ flat_map (line_put slice.now order.now) lines.now) }
     ensures short { IfOk result (λ b. b.short ≡ capped (total (line_short slice.now) lines.now)) }
 {
-    let rows = ItemRows {
-        orders: &[],
-        lines: &[],
-        staged: &[],
-        urgents: &[],
-        ..item_rows(&slice.rows)
-    };
-    let indexed = indexed_rows(alloc, slice.meta.day, &rows, lines.len())?;
+    let rows = item_rows(&slice.rows).supplies;
+    let indexed = supplies_indexed(alloc, slice.meta.day, &rows, lines.len())?;
     book_each(alloc, slice, &indexed, order, lines)
 }
 
 fn book_each(
     alloc: Global,
     slice: &Slice,
-    indexed: &IndexedRows<'_>,
+    indexed: &SuppliesIndexed<'_>,
     order: &OrderRow,
     lines: &[OrderLine],
 ) -> Result<Booked, AllocError>
@@ -115,7 +109,7 @@ fn book_each(
 fn book_line(
     alloc: Global,
     slice: &Slice,
-    indexed: &IndexedRows<'_>,
+    indexed: &SuppliesIndexed<'_>,
     order: &OrderRow,
     line: &OrderLine,
 ) -> Result<Booked, AllocError>
@@ -135,7 +129,7 @@ fn book_line(
 fn plan_booked(
     alloc: Global,
     slice: &Slice,
-    indexed: &IndexedRows<'_>,
+    indexed: &SuppliesIndexed<'_>,
     line: &OrderLine,
 ) -> Result<Plan, AllocError>
     requires { IsIndexOf slice.now indexed.now }

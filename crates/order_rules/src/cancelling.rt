@@ -9,8 +9,8 @@ use commands::{Listed, OrderRow, OrderState, Refusal};
 use row_rules::change_parts::{meta_next, none_dropped, none_put, plain_reply};
 use row_rules::first_refusal::first_of;
 use row_rules::orders_seen::{items_seen, order_row_seen, sees_open, sees_order, staged_for_seen};
-use row_rules::plans::{ItemRows, item_rows};
-use row_rules::replanning::{Replanned, replan_items};
+use row_rules::plans::{DemandRows, item_rows};
+use row_rules::replanning::{Replanned, replan_demands};
 use row_rules::row_search::rows_without;
 use row_rules::{Change, Dropped, Put, Slice};
 use std::alloc::{AllocError, Global};
@@ -82,9 +82,9 @@ fn replan_without(alloc: Global, slice: &Slice, order: &Name) -> Result<Replanne
 {
     let items = items_seen(alloc, slice, order)?;
     let others = rows_without(alloc, slice.rows.orders.as_slice(), order)?;
-    let rows = ItemRows {
+    let rows = DemandRows {
         orders: others.as_slice(),
-        ..item_rows(&slice.rows)
+        ..item_rows(&slice.rows).demands
     };
-    replan_items(alloc, slice, items.as_slice(), slice.meta.day, &rows)
+    replan_demands(alloc, slice, items.as_slice(), &rows)
 }

@@ -14,7 +14,7 @@ use row_rules::first_refusal::first_of;
 use row_rules::goods_seen::{is_held_row, sees_recall};
 use row_rules::list_parts::row_gone;
 use row_rules::orders_seen::is_open_row;
-use row_rules::plans::{ItemRows, item_rows};
+use row_rules::plans::{DemandRows, ItemRows, SupplyRows, item_rows};
 use row_rules::replanning::{Replanned, replan_item};
 use row_rules::stages::{reserved_put, reserved_qty, staged_put, staged_qty, staged_rows_with};
 use row_rules::status::{is_below, is_past, least_days};
@@ -198,10 +198,15 @@ fn replanned_with(
     let before = &slice.rows;
     let stock = stock_rows_with(alloc, before.stock.as_slice(), &p.lot, &p.bin, in_bin)?;
     let on_stage = staged_rows_with(alloc, before.staged.as_slice(), &p.order, &p.lot, staged)?;
-    let rows = ItemRows {
+    let all = item_rows(before);
+    let demands = DemandRows {
         staged: on_stage.as_slice(),
-        stock: stock.as_slice(),
-        ..item_rows(before)
+        ..all.demands
     };
+    let supplies = SupplyRows {
+        stock: stock.as_slice(),
+        ..all.supplies
+    };
+    let rows = ItemRows { demands, supplies };
     replan_item(alloc, slice, &p.lot.gtin, slice.meta.day, &rows)
 }

@@ -11,8 +11,8 @@ use crate::customer_orders::short_reply;
 use commands::{LineRow, Listed, NewOrder, OrderLine, OrderRow, ReservedRow, UrgentRow};
 use row_rules::change_parts::{meta_next, none_dropped, none_put, number_seen, one};
 use row_rules::list_parts::in_front;
-use row_rules::plans::{ItemRows, item_rows};
-use row_rules::replanning::{Replanned, replan_items};
+use row_rules::plans::{DemandRows, item_rows};
+use row_rules::replanning::{Replanned, replan_demands};
 use row_rules::row_search::{units_with, values_of};
 use row_rules::{Change, Dropped, Put, Slice};
 use std::alloc::{AllocError, Global};
@@ -77,13 +77,13 @@ fn replan_with(alloc: Global, slice: &Slice, o: &NewOrder) -> Result<Replanned, 
     let orders = in_front(alloc, new_order_row(slice, o), slice.rows.orders.as_slice())?;
     let lines = lines_with(alloc, slice, o)?;
     let urgents = urgents_with(alloc, slice, o)?;
-    let rows = ItemRows {
+    let rows = DemandRows {
         orders: orders.as_slice(),
         lines: lines.as_slice(),
         urgents: urgents.as_slice(),
-        ..item_rows(&slice.rows)
+        ..item_rows(&slice.rows).demands
     };
-    replan_items(alloc, slice, items.as_slice(), slice.meta.day, &rows)
+    replan_demands(alloc, slice, items.as_slice(), &rows)
 }
 
 // The rows of urgent orders after the act: the order is one of them.

@@ -1,10 +1,11 @@
 -- One demand in the place of the first ones of a cut.
-use Rattle.std.proofs.Common.{◌≡◌, ℕ, List, ap, sym, subst, ◌∙◌, arith}
+use Rattle.std.proofs.Common.{◌≡◌, ℕ, ◌≤◌, List, ap, sym, subst, ◌∙◌, arith}
 use Rattle.plan.specs.declared.Demand.{Demand}
 use Rattle.plan.specs.declared.Supply.{Supply}
 use Rattle.plan.specs.declared.Row.{Row}
-use Rattle.plan.specs.Overlap.{plan_rows, demand_total}
+use Rattle.plan.specs.Overlap.{plan_rows, demand_total, supply_total}
 use Rattle.plan.specs.Limits.{AreSmall}
+use Rattle.plan.specs.declared.TheConstants.{SUM_MAX}
 use Rattle.plan.specs.Changes.{HasFront, IsCut}
 use Rattle.plan.proofs.OneInFront.{one_total, one_kept}
 use Rattle.row_rules.specs.Replanning.{first_as_one}
@@ -19,3 +20,7 @@ pub one_stays : (n : ℕ) (ds : List Demand) (ss : List Supply) (es : List Deman
 one_stays n ds ss es ts was will rows cut w e r =
     let told : rows ≡ plan_rows (first_as_one n ds) ss = r ∙ ap (λ fs. plan_rows fs ss) w in
     subst (λ all. HasFront 1 will ts all) (sym told) (subst (λ fs. HasFront 1 fs ts (plan_rows (first_as_one n ds) ss)) (sym e) (one_kept ds ss es ts n cut.front))
+
+-- lists whose sums are within the limit
+pub small_lists : (ds es : List Demand) (ss ts : List Supply) → ds ≡ es → ss ≡ ts → demand_total es ≤ SUM_MAX → supply_total ts ≤ SUM_MAX → AreSmall ds ss
+small_lists ds es ss ts d s within more = record { demands = omega (arith, ap demand_total d, within); supplies = omega (arith, ap supply_total s, more) }

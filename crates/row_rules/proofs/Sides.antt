@@ -1,41 +1,55 @@
--- What changes between indexed rows, where one are those of the slice, is what the item's plan changes.
-use Rattle.std.proofs.Common.{◌≡◌, ℕ, ap, ◌∙◌, List}
+-- What is told of an item by rows that are indexed, and by those of the slice.
+use Rattle.std.proofs.Common.{◌≡◌, ℕ, List}
 use Rattle.std.specs.Prelude.{ℤ}
+use Rattle.plan.specs.declared.Demand.{Demand}
+use Rattle.plan.specs.declared.Supply.{Supply}
 use Rattle.row_rules.specs.Status.{earliest_seen}
-use Rattle.row_rules.specs.Indexed.{demands_told, supplies_told, replanned_between}
-use Rattle.row_rules.specs.Replanning.{item_demands, item_supplies, replanned_from, item_replanned}
-use Rattle.row_rules.specs.declared.slice.Slice.{Slice}
+use Rattle.row_rules.specs.Indexed.{demands_told, supplies_told}
+use Rattle.row_rules.specs.Between.{replanned_between}
+use Rattle.row_rules.specs.Replanning.{item_demands, item_supplies, replanned_from}
 use Rattle.row_rules.specs.declared.slice.Rows.{Rows}
-use Rattle.row_rules.specs.declared.plans.ItemRows.{ItemRows}
-use Rattle.row_rules.specs.declared.indexed.IndexedRows.{IndexedRows}
+use Rattle.row_rules.specs.declared.plans.DemandRows.{DemandRows}
+use Rattle.row_rules.specs.declared.plans.SupplyRows.{SupplyRows}
+use Rattle.row_rules.specs.declared.indexed.DemandsIndexed.{DemandsIndexed}
+use Rattle.row_rules.specs.declared.indexed.SuppliesIndexed.{SuppliesIndexed}
+use Rattle.row_rules.specs.declared.replanning.IndexedRows.{IndexedRows}
 
--- these are the rows of a slice that tell of items
-pub record AreOf (rows : Rows) (r : ItemRows) : Type 0 where
+-- these are the rows of a slice that tell what is needed of items, and what there is of them
+pub record AreDemandsOf (rows : Rows) (r : DemandRows) : Type 0 where
   pub orders : r.orders.now ≡ rows.orders
   pub lines : r.lines.now ≡ rows.lines
   pub staged : r.staged.now ≡ rows.staged
+  pub urgents : r.urgents.now ≡ rows.urgents
+
+pub record AreSuppliesOf (rows : Rows) (r : SupplyRows) : Type 0 where
   pub lots : r.lots.now ≡ rows.lots
   pub recalls : r.recalls.now ≡ rows.recalls
   pub bins : r.bins.now ≡ rows.bins
   pub stock : r.stock.now ≡ rows.stock
   pub least : r.least.now ≡ rows.least
-  pub urgents : r.urgents.now ≡ rows.urgents
 
-module _ (s : Slice) (day : ℤ) (old rows : ItemRows) (m n : IndexedRows) (of : AreOf s.rows old) (m_day : m.day ≡ s.meta.day) (m_rows : m.rows ≡ old) (n_day : n.day ≡ day) (n_rows : n.rows ≡ rows) where
-  pub between_is : (g : List ℕ)
-      → replanned_between m n g ≡ item_replanned s day rows.orders.now rows.lines.now rows.staged.now rows.lots.now rows.recalls.now rows.bins.now rows.stock.now rows.least.now rows.urgents.now g
-  between_is g =
-      let orders = ap (λ (r : ItemRows). r.orders.now) m_rows ∙ of.orders in
-      let lines = ap (λ (r : ItemRows). r.lines.now) m_rows ∙ of.lines in
-      let staged = ap (λ (r : ItemRows). r.staged.now) m_rows ∙ of.staged in
-      let lots = ap (λ (r : ItemRows). r.lots.now) m_rows ∙ of.lots in
-      let recalls = ap (λ (r : ItemRows). r.recalls.now) m_rows ∙ of.recalls in
-      let bins = ap (λ (r : ItemRows). r.bins.now) m_rows ∙ of.bins in
-      let stock = ap (λ (r : ItemRows). r.stock.now) m_rows ∙ of.stock in
-      let least = ap (λ (r : ItemRows). r.least.now) m_rows ∙ of.least in
-      let urgents = ap (λ (r : ItemRows). r.urgents.now) m_rows ∙ of.urgents in
-      let was : demands_told g m ≡ item_demands g s.rows.lines s.rows.staged s.rows.urgents s.rows.orders = (λ i. item_demands g (lines i) (staged i) (urgents i) (orders i)) in
-      let had : supplies_told g m ≡ item_supplies g (earliest_seen s.meta.day s.rows.least g) s.rows.recalls s.rows.bins s.rows.stock s.rows.lots = (λ i. item_supplies g (earliest_seen (m_day i) (least i) g) (recalls i) (bins i) (stock i) (lots i)) in
-      let will : demands_told g n ≡ item_demands g rows.lines.now rows.staged.now rows.urgents.now rows.orders.now = (λ i. item_demands g (n_rows i).lines.now (n_rows i).staged.now (n_rows i).urgents.now (n_rows i).orders.now) in
-      let has : supplies_told g n ≡ item_supplies g (earliest_seen day rows.least.now g) rows.recalls.now rows.bins.now rows.stock.now rows.lots.now = (λ i. item_supplies g (earliest_seen (n_day i) (n_rows i).least.now g) (n_rows i).recalls.now (n_rows i).bins.now (n_rows i).stock.now (n_rows i).lots.now) in
-      (λ i. replanned_from g (orders i) (lots i) (was i) (had i) (n_rows i).orders.now (n_rows i).lots.now (will i) (has i))
+-- what rows tell of an item
+abbrev pub needed : List ℕ → DemandRows → List Demand
+needed g r = item_demands g r.lines.now r.staged.now r.urgents.now r.orders.now
+
+abbrev pub offered : List ℕ → ℤ → SupplyRows → List Supply
+offered g day r = item_supplies g (earliest_seen day r.least.now g) r.recalls.now r.bins.now r.stock.now r.lots.now
+
+pub needed_of : (g : List ℕ) (rows : Rows) (r : DemandRows) → AreDemandsOf rows r → needed g r ≡ item_demands g rows.lines rows.staged rows.urgents rows.orders
+needed_of g rows r of = λ i. item_demands g (of.lines i) (of.staged i) (of.urgents i) (of.orders i)
+
+pub offered_of : (g : List ℕ) (day : ℤ) (rows : Rows) (r : SupplyRows) → AreSuppliesOf rows r → offered g day r ≡ item_supplies g (earliest_seen day rows.least g) rows.recalls rows.bins rows.stock rows.lots
+offered_of g day rows r of = λ i. item_supplies g (earliest_seen day (of.least i) g) (of.recalls i) (of.bins i) (of.stock i) (of.lots i)
+
+-- and the same rows indexed
+pub needed_told : (g : List ℕ) (m : DemandsIndexed) (r : DemandRows) → m.rows ≡ r → demands_told g m ≡ needed g r
+needed_told g m r e = λ i. needed g (e i)
+
+pub offered_told : (g : List ℕ) (day : ℤ) (m : SuppliesIndexed) (r : SupplyRows) → m.day ≡ day → m.rows ≡ r → supplies_told g m ≡ offered g day r
+offered_told g day m r d e = λ i. offered g (d i) (e i)
+
+-- what changes between indexed rows
+module _ (m n : IndexedRows) (was_day day : ℤ) (old new : DemandRows) (had has : SupplyRows) (m_demands : m.demands.now.rows ≡ old) (m_day : m.supplies.now.day ≡ was_day) (m_supplies : m.supplies.now.rows ≡ had)
+    (n_demands : n.demands.now.rows ≡ new) (n_day : n.supplies.now.day ≡ day) (n_supplies : n.supplies.now.rows ≡ has) where
+  pub between_is : (g : List ℕ) → replanned_between m n g ≡ replanned_from g old.orders.now had.lots.now (needed g old) (offered g was_day had) new.orders.now has.lots.now (needed g new) (offered g day has)
+  between_is g = λ i. replanned_from g (m_demands i).orders.now (m_supplies i).lots.now (needed g (m_demands i)) (offered g (m_day i) (m_supplies i)) (n_demands i).orders.now (n_supplies i).lots.now (needed g (n_demands i)) (offered g (n_day i) (n_supplies i))

@@ -7,5 +7,6 @@ pub mod Replanning
 pub mod Apart
 pub mod LookUps
 pub mod Indexed
+pub mod Between
 pub mod SeenLots
 pub mod SeenStages

@@ -19,43 +19,58 @@ use plan::{Demand, Plan, Row, SUM_MAX, Supply, whole};
 use std::alloc::{AllocError, Global};
 use values::{Gtin, Name};
 
-/// The rows that tell the demands and supplies of an item, some of them as they are after an act.
+/// The rows that tell the demands for an item.
 #[derive(Clone, Copy)]
-pub struct ItemRows<'a> {
+pub struct DemandRows<'a> {
     pub orders: &'a [OrderRow],
     pub lines: &'a [LineRow],
     pub staged: &'a [StagedRow],
+    pub urgents: &'a [UrgentRow],
+}
+
+/// The rows that tell the supplies of an item.
+#[derive(Clone, Copy)]
+pub struct SupplyRows<'a> {
     pub lots: &'a [LotRow],
     pub recalls: &'a [RecallRow],
     pub bins: &'a [BinRow],
     pub stock: &'a [StockRow],
     pub least: &'a [LeastRow],
-    pub urgents: &'a [UrgentRow],
+}
+
+/// The rows that tell the demands and supplies of an item, some of them as they are after an act.
+#[derive(Clone, Copy)]
+pub struct ItemRows<'a> {
+    pub demands: DemandRows<'a>,
+    pub supplies: SupplyRows<'a>,
 }
 
 /// The rows as they are before the act.
 pub fn item_rows(rows: &Rows) -> ItemRows<'_>
-    ensures orders { result.orders.now ≡ rows.now.orders }
-    ensures lines { result.lines.now ≡ rows.now.lines }
-    ensures staged { result.staged.now ≡ rows.now.staged }
-    ensures lots { result.lots.now ≡ rows.now.lots }
-    ensures recalls { result.recalls.now ≡ rows.now.recalls }
-    ensures bins { result.bins.now ≡ rows.now.bins }
-    ensures stock { result.stock.now ≡ rows.now.stock }
-    ensures least { result.least.now ≡ rows.now.least }
-    ensures urgents { result.urgents.now ≡ rows.now.urgents }
+    ensures orders { result.demands.orders.now ≡ rows.now.orders }
+    ensures lines { result.demands.lines.now ≡ rows.now.lines }
+    ensures staged { result.demands.staged.now ≡ rows.now.staged }
+    ensures urgents { result.demands.urgents.now ≡ rows.now.urgents }
+    ensures lots { result.supplies.lots.now ≡ rows.now.lots }
+    ensures recalls { result.supplies.recalls.now ≡ rows.now.recalls }
+    ensures bins { result.supplies.bins.now ≡ rows.now.bins }
+    ensures stock { result.supplies.stock.now ≡ rows.now.stock }
+    ensures least { result.supplies.least.now ≡ rows.now.least }
 {
-    ItemRows {
+    let demands = DemandRows {
         orders: rows.orders.as_slice(),
         lines: rows.lines.as_slice(),
         staged: rows.staged.as_slice(),
+        urgents: rows.urgents.as_slice(),
+    };
+    let supplies = SupplyRows {
         lots: rows.lots.as_slice(),
         recalls: rows.recalls.as_slice(),
         bins: rows.bins.as_slice(),
         stock: rows.stock.as_slice(),
         least: rows.least.as_slice(),
-        urgents: rows.urgents.as_slice(),
-    }
+    };
+    ItemRows { demands, supplies }
 }
 
 /// The plan of two demands over supplies, up to the limit of a list's sum: the last is booked behind

@@ -11,11 +11,12 @@ use Rattle.slice_lists.specs.LineOrder.{turned_line, line_key_cmp}
 use Rattle.goods_tables.specs.Bins.{AreBinsOf}
 use Rattle.goods_tables.specs.Items.{AreItemsOf}
 use Rattle.goods_tables.specs.Least.{AreLeastOf}
-use Rattle.goods_tables.specs.Lots.{AreLotOf}
+use Rattle.goods_tables.specs.Lots.{AreLotOf, AreLotsOf}
 use Rattle.goods_tables.specs.Recalls.{AreRecallsOf}
 use Rattle.order_tables.specs.Lines.{AreLinesOfOrder, AreLineOf}
 use Rattle.goods_tables.specs.Stock.{AreStockOf}
 use Rattle.order_tables.specs.Orders.{AreOrdersOf}
+use Rattle.order_tables.specs.Reserved.{AreReservedOfItem}
 use Rattle.order_tables.specs.Staged.{AreStagedOfItem}
 use Rattle.order_tables.specs.Urgents.{AreUrgentsOf}
 use Rattle.known_rows.proofs.Learned.{remembers_left, remembers_none}
@@ -28,12 +29,14 @@ use Rattle.slices.specs.declared.rows_known.RowsKnown.{RowsKnown}
 pub none_followed : (t : Tables) (known : Followed) → KnowsNoneFollowed known → KnowsFollowed t known
 none_followed t known none = record {
   lots = remembers_none lot_key_cmp turned_lot (λ by found. AreLotOf by t found) known.lots.rows none.lots;
+  lots_of = remembers_none (slice_cmp nat_cmp) reverse (λ by found. AreLotsOf by t found) known.lots_of.rows none.lots_of;
   orders = remembers_none (slice_cmp nat_cmp) reverse (λ by found. AreOrdersOf by t found) known.orders.rows none.orders;
   urgents = remembers_none (slice_cmp nat_cmp) reverse (λ by found. AreUrgentsOf by t found) known.urgents.rows none.urgents;
   lines = remembers_none (slice_cmp nat_cmp) reverse (λ by found. AreLinesOfOrder by t found) known.lines.rows none.lines;
   lines_at = remembers_none line_key_cmp turned_line (λ by found. AreLineOf by t found) known.lines_at.rows none.lines_at;
   stock = remembers_none (slice_cmp nat_cmp) reverse (λ by found. AreStockOf by t found) known.stock.rows none.stock;
   staged = remembers_none (slice_cmp nat_cmp) reverse (λ by found. AreStagedOfItem by t found) known.staged.rows none.staged;
+  reserved = remembers_none (slice_cmp nat_cmp) reverse (λ by found. AreReservedOfItem by t found) known.reserved.rows none.reserved;
   meta = subst (λ (x : Option MetaRow). KnowsMeta t x) (sym none.meta) tt;
 }
 

@@ -7,6 +7,7 @@ use Rattle.commands.specs.declared.rows.LineRow.{LineRow}
 use Rattle.commands.specs.declared.rows.LotRow.{LotRow}
 use Rattle.commands.specs.declared.rows.MetaRow.{MetaRow}
 use Rattle.commands.specs.declared.rows.OrderRow.{OrderRow}
+use Rattle.commands.specs.declared.rows.ReservedRow.{ReservedRow}
 use Rattle.commands.specs.declared.rows.StagedRow.{StagedRow}
 use Rattle.commands.specs.declared.rows.StockRow.{StockRow}
 use Rattle.commands.specs.declared.rows.UrgentRow.{UrgentRow}
@@ -17,13 +18,14 @@ use Rattle.slice_lists.specs.LineOrder.{turned_line, line_key_cmp}
 use Rattle.row_rules.specs.declared.slice.Change.{Change}
 use Rattle.row_rules.specs.declared.slice.Dropped.{Dropped}
 use Rattle.row_rules.specs.declared.slice.Put.{Put}
-use Rattle.goods_tables.specs.Lots.{AreLotOf}
+use Rattle.goods_tables.specs.Lots.{AreLotOf, AreLotsOf}
 use Rattle.goods_tables.specs.Stock.{AreStockOf}
 use Rattle.order_tables.specs.Lines.{AreLinesOfOrder, AreLineOf}
 use Rattle.order_tables.specs.Orders.{AreOrdersOf}
+use Rattle.order_tables.specs.Reserved.{AreReservedOfItem}
 use Rattle.order_tables.specs.Staged.{AreStagedOfItem}
 use Rattle.order_tables.specs.Urgents.{AreUrgentsOf}
-use Rattle.known_rows.specs.Keyed.{same_lot_row, same_stock_row, same_order_row, same_urgent_row, same_line_row, same_staged_row}
+use Rattle.known_rows.specs.Keyed.{same_lot_row, same_stock_row, same_order_row, same_urgent_row, same_line_row, same_staged_row, same_reserved_row}
 use Rattle.known_rows.specs.KnownRows.{RowMap, KnowsNone, ChangesBy, Remembers, with_put, without_row}
 use Rattle.slices.specs.declared.followed.Followed.{Followed}
 
@@ -32,6 +34,10 @@ use Rattle.slices.specs.declared.followed.Followed.{Followed}
 -- lots by their keys
 abbrev pub KnowsLots : Tables → RowMap LotKey LotRow → Type 0
 KnowsLots t m = Remembers lot_key_cmp turned_lot (λ by found. AreLotOf by t found) m
+
+-- all lots of an item, by its GTIN
+abbrev pub KnowsLotsOf : Tables → RowMap (List ℕ) LotRow → Type 0
+KnowsLotsOf t m = Remembers (slice_cmp nat_cmp) reverse (λ by found. AreLotsOf by t found) m
 
 -- orders by their names
 abbrev pub KnowsOrders : Tables → RowMap (List ℕ) OrderRow → Type 0
@@ -57,6 +63,10 @@ KnowsStock t m = Remembers (slice_cmp nat_cmp) reverse (λ by found. AreStockOf 
 abbrev pub KnowsStaged : Tables → RowMap (List ℕ) StagedRow → Type 0
 KnowsStaged t m = Remembers (slice_cmp nat_cmp) reverse (λ by found. AreStagedOfItem by t found) m
 
+-- what is reserved, by the GTINs of its items
+abbrev pub KnowsReserved : Tables → RowMap (List ℕ) ReservedRow → Type 0
+KnowsReserved t m = Remembers (slice_cmp nat_cmp) reverse (λ by found. AreReservedOfItem by t found) m
+
 -- the row of the books
 abbrev pub KnowsMeta : Tables → Option MetaRow → Type 0
 KnowsMeta t known = IfSome known (λ row. t.meta ≡ Some row)
@@ -64,29 +74,36 @@ KnowsMeta t known = IfSome known (λ row. t.meta ≡ Some row)
 -- so of all
 pub record KnowsFollowed (t : Tables) (known : Followed) : Type 0 where
   pub lots : KnowsLots t known.lots.rows
+  pub lots_of : KnowsLotsOf t known.lots_of.rows
   pub orders : KnowsOrders t known.orders.rows
   pub urgents : KnowsUrgents t known.urgents.rows
   pub lines : KnowsLines t known.lines.rows
   pub lines_at : KnowsLinesAt t known.lines_at.rows
   pub stock : KnowsStock t known.stock.rows
   pub staged : KnowsStaged t known.staged.rows
+  pub reserved : KnowsReserved t known.reserved.rows
   pub meta : KnowsMeta t known.meta
 
 -- nothing is known
 pub record KnowsNoneFollowed (known : Followed) : Type 0 where
   pub lots : KnowsNone lot_key_cmp known.lots.rows
+  pub lots_of : KnowsNone (slice_cmp nat_cmp) known.lots_of.rows
   pub orders : KnowsNone (slice_cmp nat_cmp) known.orders.rows
   pub urgents : KnowsNone (slice_cmp nat_cmp) known.urgents.rows
   pub lines : KnowsNone (slice_cmp nat_cmp) known.lines.rows
   pub lines_at : KnowsNone line_key_cmp known.lines_at.rows
   pub stock : KnowsNone (slice_cmp nat_cmp) known.stock.rows
   pub staged : KnowsNone (slice_cmp nat_cmp) known.staged.rows
+  pub reserved : KnowsNone (slice_cmp nat_cmp) known.reserved.rows
   pub meta : known.meta ≡ None
 
 -- What is known, with the rows of a change
 
 abbrev pub LotsPut : Put → RowMap LotKey LotRow → RowMap LotKey LotRow → Type 0
 LotsPut puts old new = ChangesBy lot_key_cmp (λ (r : LotRow). turned_lot r.lot) (with_put same_lot_row) puts.lots old new
+
+abbrev pub LotsOfPut : Put → RowMap (List ℕ) LotRow → RowMap (List ℕ) LotRow → Type 0
+LotsOfPut puts old new = ChangesBy (slice_cmp nat_cmp) (λ (r : LotRow). reverse r.lot.gtin) (with_put same_lot_row) puts.lots old new
 
 abbrev pub OrdersPut : Put → RowMap (List ℕ) OrderRow → RowMap (List ℕ) OrderRow → Type 0
 OrdersPut puts old new = ChangesBy (slice_cmp nat_cmp) (λ (r : OrderRow). reverse r.order) (with_put same_order_row) puts.orders old new
@@ -123,12 +140,23 @@ abbrev pub StagedFollows : Put → Dropped → Option (List ℕ) → RowMap (Lis
 StagedFollows puts drops (Some order) old new = KnowsNone (slice_cmp nat_cmp) new
 StagedFollows puts drops None old new = StagedChanges puts drops old new
 
+abbrev pub ReservedDropped : Dropped → RowMap (List ℕ) ReservedRow → RowMap (List ℕ) ReservedRow → Type 0
+ReservedDropped drops old new = ChangesBy (slice_cmp nat_cmp) (λ (r : ReservedRow). reverse r.lot.gtin) (without_row same_reserved_row) drops.reserved old new
+
+abbrev pub ReservedPut : Put → RowMap (List ℕ) ReservedRow → RowMap (List ℕ) ReservedRow → Type 0
+ReservedPut puts old new = ChangesBy (slice_cmp nat_cmp) (λ (r : ReservedRow). reverse r.lot.gtin) (with_put same_reserved_row) puts.reserved old new
+
+abbrev pub ReservedFollows : Put → Dropped → RowMap (List ℕ) ReservedRow → RowMap (List ℕ) ReservedRow → Type 0
+ReservedFollows puts drops old new = (mid : RowMap (List ℕ) ReservedRow) × ReservedDropped drops old mid × ReservedPut puts mid new
+
 pub record Follows (c : Change) (old new : Followed) : Type 0 where
   pub lots : LotsPut c.put old.lots.rows new.lots.rows
+  pub lots_of : LotsOfPut c.put old.lots_of.rows new.lots_of.rows
   pub orders : OrdersPut c.put old.orders.rows new.orders.rows
   pub urgents : UrgentsPut c.put old.urgents.rows new.urgents.rows
   pub lines : LinesPut c.put old.lines.rows new.lines.rows
   pub lines_at : LinesAtPut c.put old.lines_at.rows new.lines_at.rows
   pub stock : StockFollows c.put c.dropped old.stock.rows new.stock.rows
   pub staged : StagedFollows c.put c.dropped c.dropped.stage old.staged.rows new.staged.rows
+  pub reserved : ReservedFollows c.put c.dropped old.reserved.rows new.reserved.rows
   pub meta : new.meta ≡ Some c.meta

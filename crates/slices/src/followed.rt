@@ -1,9 +1,9 @@
 //! Rows that are known, and that follow what is written.
 
 ghost use Rattle.std.specs.Prelude.{◌≡◌, Some};
-ghost use Rattle.slices.specs.Following.{KnowsNoneFollowed, StockFollows, StagedChanges, StagedFollows, Follows};
+ghost use Rattle.slices.specs.Following.{KnowsNoneFollowed, StockFollows, StagedChanges, StagedFollows, ReservedFollows, Follows};
 
-use commands::{LineRow, LotRow, MetaRow, OrderRow, StagedRow, StockRow, UrgentRow};
+use commands::{LineRow, LotRow, MetaRow, OrderRow, ReservedRow, StagedRow, StockRow, UrgentRow};
 use known_rows::KnownRows;
 use rules::{Change, Dropped, Put};
 use slice_lists::LineKey;
@@ -15,6 +15,8 @@ use values::{Gtin, LotId, LotKey, Name, TextKey};
 pub struct Followed {
     /// Lots by their keys.
     pub lots: KnownRows<LotId, LotKey, LotRow>,
+    /// All lots of an item, by its GTIN.
+    pub lots_of: KnownRows<Gtin, TextKey, LotRow>,
     /// Orders by their names.
     pub orders: KnownRows<Name, TextKey, OrderRow>,
     /// The rows of urgent orders, by the names of these.
@@ -27,6 +29,8 @@ pub struct Followed {
     pub stock: KnownRows<Gtin, TextKey, StockRow>,
     /// What is staged, by the GTINs of its items.
     pub staged: KnownRows<Gtin, TextKey, StagedRow>,
+    /// What is reserved, by the GTINs of its items.
+    pub reserved: KnownRows<Gtin, TextKey, ReservedRow>,
     /// The row of `meta`.
     pub meta: Option<MetaRow>,
 }
@@ -59,6 +63,18 @@ fn follow_staged(staged: &mut KnownRows<Gtin, TextKey, StagedRow>, put: &Put, dr
     }
 }
 
+/// With what a change drops and puts of what is reserved.
+fn follow_reserved(
+    reserved: &mut KnownRows<Gtin, TextKey, ReservedRow>,
+    put: &Put,
+    dropped: &Dropped,
+)
+    ensures { ReservedFollows put.now dropped.now reserved.old.rows reserved.new.rows }
+{
+    reserved.drop_all(dropped.reserved.as_slice());
+    reserved.put_all(put.reserved.as_slice());
+}
+
 impl Followed {
     /// Nothing is known.
     pub fn new(alloc: Global) -> Self
@@ -66,12 +82,14 @@ impl Followed {
     {
         Followed {
             lots: KnownRows::new(alloc),
+            lots_of: KnownRows::new(alloc),
             orders: KnownRows::new(alloc),
             urgents: KnownRows::new(alloc),
             lines: KnownRows::new(alloc),
             lines_at: KnownRows::new(alloc),
             stock: KnownRows::new(alloc),
             staged: KnownRows::new(alloc),
+            reserved: KnownRows::new(alloc),
             meta: None,
         }
     }
@@ -88,12 +106,14 @@ impl Followed {
         ensures { Follows change.now self.old self.new }
     {
         self.lots.put_all(change.put.lots.as_slice());
+        self.lots_of.put_all(change.put.lots.as_slice());
         self.orders.put_all(change.put.orders.as_slice());
         self.urgents.put_all(change.put.urgents.as_slice());
         self.lines.put_all(change.put.lines.as_slice());
         self.lines_at.put_all(change.put.lines.as_slice());
         follow_stock(&mut self.stock, &change.put, &change.dropped);
         follow_staged(&mut self.staged, &change.put, &change.dropped);
+        follow_reserved(&mut self.reserved, &change.put, &change.dropped);
         self.meta = Some(change.meta);
     }
 }

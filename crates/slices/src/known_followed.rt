@@ -4,6 +4,8 @@ ghost use Rattle.std.specs.Prelude.{◌≡◌, Some, filter, IfOk};
 ghost use Rattle.sqlite.specs.Held.{state};
 ghost use Rattle.table_words.specs.Typed.{same_lot_id};
 ghost use Rattle.goods_tables.specs.Stock.{AreStockOf, AreStockOfLot};
+ghost use Rattle.order_tables.specs.Reserved.{AreReservedOf, AreReservedOfItem};
+ghost use Rattle.order_tables.specs.Staged.{AreStagedOf};
 ghost use Rattle.known_reads.specs.Reading.{Each, IsRead};
 ghost use Rattle.slices.specs.Remembering.{Learning};
 ghost use Rattle.slices.specs.Slicing.{AreStaged};
@@ -11,14 +13,16 @@ ghost use Rattle.slices.specs.Slicing.{AreStaged};
 use crate::one_table::meta_row;
 use crate::rows_known::RowsKnown;
 use crate::sought_rows::read_rows;
-use commands::{MetaRow, StagedRow, StockRow};
+use commands::{MetaRow, ReservedRow, StagedRow, StockRow};
 use goods_tables::stock::Stock;
 use known_reads::seek_all_known;
+use order_tables::reserved::Reserved;
 use order_tables::staged::Staged;
+use row_rules::row_search::rows_with;
 use sqlite::{Alter, Transaction};
 use std::alloc::{AllocError, Global};
 use table_words::error::TableFault;
-use values::{Gtin, LotId, TextKey};
+use values::{Gtin, LotId, Name, TextKey};
 
 /// The stock of items, one after another.
 pub fn seek_stock<S: Alter>(
@@ -92,6 +96,53 @@ pub fn seek_staged<S: Alter>(
     ensures read { IsRead (Learning rows.old rows.new (λ t found. AreStaged gtins.now t found.items)) (state S.Store tx.old.conn.now) (state S.Store tx.new.conn.now) result }
 {
     seek_all_known::<Staged, Gtin, TextKey, S>(alloc, tx, &mut rows.followed.staged, gtins)
+}
+
+/// What is staged of a lot for an order: what is staged of its item has it, where that is known.
+pub fn seek_staged_of<S: Alter>(
+    alloc: Global,
+    tx: &mut Transaction<'_, S>,
+    rows: &RowsKnown,
+    key: &(Name, LotId),
+) -> Result<Vec<StagedRow>, TableFault>
+    ensures same_reference { tx.new.conn.ghost_name ≡ tx.old.conn.ghost_name }
+    ensures read { IsRead (Learning rows.now rows.now (λ t found. AreStagedOf key.now t found.items)) (state S.Store tx.old.conn.now) (state S.Store tx.new.conn.now) result }
+{
+    if let Some(known) = rows.followed.staged.rows_of(&key.1.gtin) {
+        let own = rows_with(alloc, known, key)?;
+        return Ok(own);
+    }
+    read_rows::<Staged, (Name, LotId), S>(alloc, tx, key)
+}
+
+/// What is reserved of items, one after another.
+pub fn seek_reserved<S: Alter>(
+    alloc: Global,
+    tx: &mut Transaction<'_, S>,
+    rows: &mut RowsKnown,
+    gtins: &[Gtin],
+) -> Result<Vec<ReservedRow>, TableFault>
+    ensures same_reference { tx.new.conn.ghost_name ≡ tx.old.conn.ghost_name }
+    ensures read { IsRead (Learning rows.old rows.new (λ t found. Each (λ g found_rows. AreReservedOfItem g t found_rows) gtins.now found.items)) (state S.Store tx.old.conn.now) (state S.Store tx.new.conn.now) result }
+{
+    seek_all_known::<Reserved, Gtin, TextKey, S>(alloc, tx, &mut rows.followed.reserved, gtins)
+}
+
+/// What is reserved of a lot for an order: what is reserved of its item has it, where that is known.
+pub fn seek_reserved_of<S: Alter>(
+    alloc: Global,
+    tx: &mut Transaction<'_, S>,
+    rows: &RowsKnown,
+    key: &(Name, LotId),
+) -> Result<Vec<ReservedRow>, TableFault>
+    ensures same_reference { tx.new.conn.ghost_name ≡ tx.old.conn.ghost_name }
+    ensures read { IsRead (Learning rows.now rows.now (λ t found. AreReservedOf key.now t found.items)) (state S.Store tx.old.conn.now) (state S.Store tx.new.conn.now) result }
+{
+    if let Some(known) = rows.followed.reserved.rows_of(&key.1.gtin) {
+        let own = rows_with(alloc, known, key)?;
+        return Ok(own);
+    }
+    read_rows::<Reserved, (Name, LotId), S>(alloc, tx, key)
 }
 
 /// The row of `meta`; `Foreign` also where there is none.

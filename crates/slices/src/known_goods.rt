@@ -5,7 +5,7 @@ ghost use Rattle.sqlite.specs.Held.{state};
 ghost use Rattle.goods_tables.specs.Bins.{AreBinsOf};
 ghost use Rattle.goods_tables.specs.Items.{AreItemsOf};
 ghost use Rattle.goods_tables.specs.Least.{AreLeastOf};
-ghost use Rattle.goods_tables.specs.Lots.{AreLotOf};
+ghost use Rattle.goods_tables.specs.Lots.{AreLotOf, AreLotsOf as AreLotsOfItem};
 ghost use Rattle.goods_tables.specs.Recalls.{AreRecallsOf};
 ghost use Rattle.known_reads.specs.Reading.{Each, IsRead};
 ghost use Rattle.slices.specs.ByLot.{AreLotsOf};
@@ -127,6 +127,19 @@ pub fn seek_lots<S: Alter>(
     ensures read { IsRead (Learning rows.old rows.new (λ t found. AreLotsOf lots.now t found.items)) (state S.Store tx.old.conn.now) (state S.Store tx.new.conn.now) result }
 {
     seek_all_known::<Lots, LotId, LotKey, S>(alloc, tx, &mut rows.followed.lots, lots)
+}
+
+/// All lots of an item.
+pub fn seek_lots_of<S: Alter>(
+    alloc: Global,
+    tx: &mut Transaction<'_, S>,
+    rows: &mut RowsKnown,
+    gtin: &Gtin,
+) -> Result<Vec<LotRow>, TableFault>
+    ensures same_reference { tx.new.conn.ghost_name ≡ tx.old.conn.ghost_name }
+    ensures read { IsRead (Learning rows.old rows.new (λ t found. AreLotsOfItem gtin.now t found.items)) (state S.Store tx.old.conn.now) (state S.Store tx.new.conn.now) result }
+{
+    seek_known::<Lots, Gtin, TextKey, S>(alloc, tx, &mut rows.followed.lots_of, gtin)
 }
 
 /// The recalls of an item.

@@ -28,7 +28,11 @@ fn line_known<S: Alter>(
     ensures same_reference { tx.new.conn.ghost_name ≡ tx.old.conn.ghost_name }
     ensures read { IsRead (Learning rows.old rows.new (λ t row. row ≡ t.line order.now gtin.now)) (state S.Store tx.old.conn.now) (state S.Store tx.new.conn.now) result }
 {
-    let found = seek_line(alloc, tx, rows, &(*order, *gtin))?;
+    let line = (*order, *gtin);
+    if let Some(known) = rows.followed.lines_at.rows_of(&line) {
+        return Ok(known.first().copied());
+    }
+    let found = seek_line(alloc, tx, rows, &line)?;
     Ok(found.as_slice().first().copied())
 }
 

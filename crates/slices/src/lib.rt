@@ -22,11 +22,14 @@ mod urgent_orders;
 
 pub use followed::Followed;
 pub use knowing::{Bounds, Known};
-pub use known_followed::{known_meta, seek_staged, seek_stock, seek_stock_of, seek_stock_of_lots};
-pub use known_goods::{
-    seek_bins, seek_item, seek_least, seek_least_of, seek_lot, seek_lots, seek_recalls_of,
+pub use known_followed::{
+    known_meta, seek_reserved, seek_staged, seek_stock, seek_stock_of, seek_stock_of_lots,
 };
-pub use known_lists::{seek_lines, seek_order, seek_urgents};
+pub use known_goods::{
+    seek_bin, seek_bins, seek_item, seek_items, seek_least, seek_least_of, seek_lot, seek_lots,
+    seek_lots_of, seek_recalls, seek_recalls_of,
+};
+pub use known_lists::{seek_lines, seek_order, seek_orders, seek_urgents};
 pub use known_orders::read_known_orders;
 pub use one_table::{line_row, meta_row};
 pub use order_slices::add_line;

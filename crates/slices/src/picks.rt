@@ -6,15 +6,12 @@ ghost use Rattle.known_reads.specs.Reading.{IsRead};
 ghost use Rattle.slices.specs.Remembering.{Learning};
 ghost use Rattle.slices.specs.Slicing.{AreGoodsIn, AreOrderOf, AreSharesOf, ArePicked};
 
-use crate::known_followed::seek_stock_of;
+use crate::known_followed::{seek_reserved_of, seek_staged_of, seek_stock_of};
 use crate::known_goods::{seek_bin, seek_item, seek_least_of, seek_lot, seek_recalls_of};
 use crate::known_lists::{seek_line, seek_order};
 use crate::rows_known::RowsKnown;
 use crate::slice_rows::{Goods, Ordered, Shares, rows_read};
-use crate::sought_rows::read_rows;
 use commands::Picking;
-use order_tables::reserved::Reserved;
-use order_tables::staged::Staged;
 use rules::Rows;
 use sqlite::{Alter, Transaction};
 use std::alloc::Global;
@@ -72,15 +69,16 @@ fn read_order<S: Alter>(
 fn read_shares<S: Alter>(
     alloc: Global,
     tx: &mut Transaction<'_, S>,
+    rows: &RowsKnown,
     order: &Name,
     lot: &LotId,
 ) -> Result<Shares, TableFault>
     ensures same_reference { tx.new.conn.ghost_name ≡ tx.old.conn.ghost_name }
-    ensures read { IsRead (λ t shares. AreSharesOf order.now lot.now t shares.staged.items shares.reserved.items) (state S.Store tx.old.conn.now) (state S.Store tx.new.conn.now) result }
+    ensures read { IsRead (Learning rows.now rows.now (λ t shares. AreSharesOf order.now lot.now t shares.staged.items shares.reserved.items)) (state S.Store tx.old.conn.now) (state S.Store tx.new.conn.now) result }
 {
     let key = (*order, *lot);
-    let staged = read_rows::<Staged, (Name, LotId), S>(alloc, tx, &key)?;
-    let reserved = read_rows::<Reserved, (Name, LotId), S>(alloc, tx, &key)?;
+    let staged = seek_staged_of(alloc, tx, rows, &key)?;
+    let reserved = seek_reserved_of(alloc, tx, rows, &key)?;
     Ok(Shares { staged, reserved })
 }
 
@@ -97,6 +95,6 @@ pub fn read_pick<S: Alter>(
 {
     let goods = read_goods(alloc, tx, rows, &p.lot, &p.bin)?;
     let ordered = read_order(alloc, tx, rows, &p.order, &p.lot.gtin)?;
-    let shares = read_shares(alloc, tx, &p.order, &p.lot)?;
+    let shares = read_shares(alloc, tx, rows, &p.order, &p.lot)?;
     Ok(rows_read(goods, ordered, shares))
 }

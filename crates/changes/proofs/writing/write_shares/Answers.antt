@@ -5,4 +5,4 @@ use Rattle.changes.proofs.writing.write_shares.Goals as goal
 
 pub returns-clause-writes : goal.returns-clause-writes
 returns-clause-writes g c =
-    writes_then _ _ (state g.S.Store c.args.tx.now.conn.now) (state g.S.Store c.write_rows.new.tx.conn.now) (state g.S.Store c.write_rows-2.new.tx.conn.now) tt c.write_rows-2.result (writes_then _ _ (state g.S.Store c.args.tx.now.conn.now) (state g.S.Store c.write_stage.new.tx.conn.now) (state g.S.Store c.write_rows.new.tx.conn.now) tt (Ok tt) c.in_ok-write_stage.ensures.writes c.in_ok-write_rows.ensures.writes) c.write_rows-2.ensures.writes
+    writes_then _ _ (state g.S.Store c.args.tx.now.conn.now) (state g.S.Store c.write_rows.new.tx.conn.now) (state g.S.Store c.write_reserved.new.tx.conn.now) tt c.write_reserved.result (writes_then _ _ (state g.S.Store c.args.tx.now.conn.now) (state g.S.Store c.write_stage.new.tx.conn.now) (state g.S.Store c.write_rows.new.tx.conn.now) tt (Ok tt) c.in_ok-write_stage.ensures.writes c.in_ok-write_rows.ensures.writes) c.write_reserved.ensures.writes

@@ -7,7 +7,7 @@ pub returns : goal.returns
 returns c =
     let s = c.args.slice.now in
     let rows = c.item_rows.ensures in
-    IfOk-weaker c.replan_item.result _ _
+    IfOk-weaker c.replan_supplies.result _ _
     (λ r e stock. e
-    ∙ (λ i. item_replanned s s.meta.day (rows.orders i) (rows.lines i) (rows.staged i) (rows.lots i) (rows.recalls i) (rows.bins i) (stock i) (rows.least i) (rows.urgents i) c.args.made.now.lot.gtin))
-    c.replan_item.ensures
+    ∙ (λ i. item_replanned s s.meta.day s.rows.orders s.rows.lines s.rows.staged (rows.lots i) (rows.recalls i) (rows.bins i) (stock i) (rows.least i) s.rows.urgents c.args.made.now.lot.gtin))
+    c.replan_supplies.ensures

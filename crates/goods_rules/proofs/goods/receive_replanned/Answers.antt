@@ -8,7 +8,7 @@ returns c =
     let s = c.args.slice.now in
     let rows = c.item_rows.ensures in
     let lots = c.as_slice.ensures.value ∙ c.in_ok-lots.ensures in
-    IfOk-weaker c.replan_item.result _ _
+    IfOk-weaker c.replan_supplies.result _ _
     (λ r e stock. e
-    ∙ (λ i. item_replanned s s.meta.day (rows.orders i) (rows.lines i) (rows.staged i) (lots i) (rows.recalls i) (rows.bins i) (stock i) (rows.least i) (rows.urgents i) c.args.r.now.lot.gtin))
-    c.replan_item.ensures
+    ∙ (λ i. item_replanned s s.meta.day s.rows.orders s.rows.lines s.rows.staged (lots i) (rows.recalls i) (rows.bins i) (stock i) (rows.least i) s.rows.urgents c.args.r.now.lot.gtin))
+    c.replan_supplies.ensures

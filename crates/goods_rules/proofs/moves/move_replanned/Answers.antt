@@ -10,5 +10,5 @@ returns c =
     let m = c.args.m.now in
     let rows = c.item_rows.ensures in
     let stock = c.as_slice.ensures.value ∙ c.in_ok-stock.ensures in
-    made_same c.replan_item.result _ (move_replanned s m) c.replan_item.ensures
-    (λ i. item_replanned s s.meta.day (rows.orders i) (rows.lines i) (rows.staged i) (rows.lots i) (rows.recalls i) (rows.bins i) (stock i) (rows.least i) (rows.urgents i) m.lot.gtin)
+    made_same c.replan_supplies.result _ (move_replanned s m) c.replan_supplies.ensures
+    (λ i. item_replanned s s.meta.day s.rows.orders s.rows.lines s.rows.staged (rows.lots i) (rows.recalls i) (rows.bins i) (stock i) (rows.least i) s.rows.urgents m.lot.gtin)

@@ -7,7 +7,7 @@ pub returns : goal.returns
 returns c =
     let s = c.args.slice.now in
     let rows = c.item_rows.ensures in
-    IfOk-weaker c.replan_item.result _ _
+    IfOk-weaker c.replan_supplies.result _ _
     (λ r e lots. e
-    ∙ (λ i. item_replanned s s.meta.day (rows.orders i) (rows.lines i) (rows.staged i) (lots i) (rows.recalls i) (rows.bins i) (rows.stock i) (rows.least i) (rows.urgents i) c.args.lot.now.gtin))
-    c.replan_item.ensures
+    ∙ (λ i. item_replanned s s.meta.day s.rows.orders s.rows.lines s.rows.staged (lots i) (rows.recalls i) (rows.bins i) (rows.stock i) (rows.least i) s.rows.urgents c.args.lot.now.gtin))
+    c.replan_supplies.ensures

@@ -8,7 +8,7 @@ pub returns : goal.returns
 returns c =
     let a = c.args in
     let s = a.slice.now in
-    let rows = c.item_rows.ensures in
+    let rows = c.item_rows-before.ensures in
     let staged = c.as_slice.ensures.value ∙ c.in_ok-staged.ensures in
     let bins = c.as_slice-2.ensures.value ∙ c.in_ok-bins.ensures in
     let stock = c.as_slice-3.ensures.value ∙ c.in_ok-stock.ensures in

@@ -15,8 +15,8 @@ returns-clause-put c =
     let orders = c.as_slice-3.ensures.value ∙ c.in_ok-orders.ensures ∙ (λ i. c.new_order_row.ensures i ∷ c.as_slice-2.ensures i) in
     let lines = c.as_slice-4.ensures.value ∙ c.in_ok-lines.ensures in
     let urgents = c.as_slice-5.ensures.value ∙ c.in_ok-urgents.ensures in
-    part_same c.replan_items.result (λ (r : Replanned). r.put) _ (urgent_put s o) c.replan_items.ensures.put
-    (λ i. flat_map (λ g. (item_replanned s s.meta.day (orders i) (lines i) (rows.staged i) (rows.lots i) (rows.recalls i) (rows.bins i) (rows.stock i) (rows.least i) (urgents i) g).put) (items i))
+    part_same c.replan_demands.result (λ (r : Replanned). r.put) _ (urgent_put s o) c.replan_demands.ensures.put
+    (λ i. flat_map (λ g. (item_replanned s s.meta.day (orders i) (lines i) (rows.staged i) s.rows.lots s.rows.recalls s.rows.bins s.rows.stock s.rows.least (urgents i) g).put) (items i))
 
 pub returns-clause-dropped : goal.returns-clause-dropped
 returns-clause-dropped c =
@@ -27,5 +27,5 @@ returns-clause-dropped c =
     let orders = c.as_slice-3.ensures.value ∙ c.in_ok-orders.ensures ∙ (λ i. c.new_order_row.ensures i ∷ c.as_slice-2.ensures i) in
     let lines = c.as_slice-4.ensures.value ∙ c.in_ok-lines.ensures in
     let urgents = c.as_slice-5.ensures.value ∙ c.in_ok-urgents.ensures in
-    part_same c.replan_items.result (λ (r : Replanned). r.dropped) _ (urgent_dropped s o) c.replan_items.ensures.dropped
-    (λ i. flat_map (λ g. (item_replanned s s.meta.day (orders i) (lines i) (rows.staged i) (rows.lots i) (rows.recalls i) (rows.bins i) (rows.stock i) (rows.least i) (urgents i) g).dropped) (items i))
+    part_same c.replan_demands.result (λ (r : Replanned). r.dropped) _ (urgent_dropped s o) c.replan_demands.ensures.dropped
+    (λ i. flat_map (λ g. (item_replanned s s.meta.day (orders i) (lines i) (rows.staged i) s.rows.lots s.rows.recalls s.rows.bins s.rows.stock s.rows.least (urgents i) g).dropped) (items i))

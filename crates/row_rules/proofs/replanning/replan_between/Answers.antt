@@ -1,18 +1,23 @@
 use Rattle.std.proofs.Common.{◌∙◌}
 use Rattle.std.proofs.lemmas.Result.{IfOk-weaker}
-use Rattle.plan.specs.Changes.{cut_of}
-use Rattle.row_rules.specs.Replanning.{rows_behind, replanned_rows}
+use Rattle.row_rules.specs.Replanning.{replanned_from}
+use Rattle.row_rules.proofs.BehindCut.{small_lists}
 use Rattle.row_rules.proofs.replanning.replan_between.Goals as goal
+
+pub replan_told-requires-clause-before : goal.replan_told-requires-clause-before
+replan_told-requires-clause-before c = small_lists _ _ _ _ c.as_slice.ensures.value c.as_slice-2.ensures.value c.in_ok-wanted.ensures.small c.in_ok-offered.ensures.small
+
+pub replan_told-requires-clause-after : goal.replan_told-requires-clause-after
+replan_told-requires-clause-after c = small_lists _ _ _ _ c.as_slice-3.ensures.value c.as_slice-4.ensures.value c.in_ok-wants.ensures.small c.in_ok-offers.ensures.small
 
 pub returns : goal.returns
 returns c =
     let g = c.args.gtin.now in
-    let m = c.args.before.now.rows in
-    let n = c.args.after.now.rows in
-    let was = c.in_ok-was.ensures.demands in
-    let had = c.in_ok-was.ensures.supplies in
-    let will = c.in_ok-will.ensures.demands in
-    let has = c.in_ok-will.ensures.supplies in
-    let olds = c.as_slice-olds.ensures.value ∙ c.in_ok-plans.ensures.before ∙ (λ i. rows_behind (cut_of (was i) (had i) (will i) (has i)) (was i) (had i)) in
-    let news = c.as_slice-news.ensures.value ∙ c.in_ok-plans.ensures.after ∙ (λ i. rows_behind (cut_of (was i) (had i) (will i) (has i)) (will i) (has i)) in
-    IfOk-weaker c.replan_rows.result _ _ (λ r e. e ∙ (λ i. replanned_rows g m.orders.now m.lots.now (olds i) n.orders.now n.lots.now (news i))) c.replan_rows.ensures
+    let m = c.args.before.now in
+    let n = c.args.after.now in
+    let wanted = c.as_slice.ensures.value ∙ c.in_ok-wanted.ensures.told in
+    let offered = c.as_slice-2.ensures.value ∙ c.in_ok-offered.ensures.told in
+    let wants = c.as_slice-3.ensures.value ∙ c.in_ok-wants.ensures.told in
+    let offers = c.as_slice-4.ensures.value ∙ c.in_ok-offers.ensures.told in
+    IfOk-weaker c.replan_told.result _ _
+    (λ r e. e ∙ (λ i. replanned_from g m.demands.now.rows.orders.now m.supplies.now.rows.lots.now (wanted i) (offered i) n.demands.now.rows.orders.now n.supplies.now.rows.lots.now (wants i) (offers i))) c.replan_told.ensures

@@ -1,4 +1,4 @@
-use Rattle.row_rules.specs.Indexed.{replanned_between}
+use Rattle.row_rules.specs.Between.{replanned_between}
 use Rattle.row_rules.proofs.GatheringShares.{AreGathered}
 use Rattle.row_rules.proofs.replanning.replan_each.Given as goal
 

@@ -1,14 +1,24 @@
-use Rattle.std.proofs.Common.{◌∙◌}
-use Rattle.std.proofs.lemmas.Result.{IfOk-weaker}
-use Rattle.row_rules.proofs.Sides.{AreOf, between_is}
+use Rattle.std.proofs.Common.{sym, ap, ◌∙◌, false}
+use Rattle.std.specs.Prelude.{◌≡◌}
+use Rattle.std.specs.List.{list_any}
+use Rattle.commands.specs.declared.rows.OrderRow.{OrderRow}
+use Rattle.machine.specs.Planning.{is_open_state}
+use Rattle.row_rules.specs.Replanning.{item_demands, item_supplies}
+use Rattle.row_rules.specs.Status.{earliest_seen}
+use Rattle.row_rules.proofs.NoneOpen.{none_demanded, nothing_replanned}
 use Rattle.row_rules.proofs.replanning.replan_item.Goals as goal
 
 pub returns : goal.returns
 returns c =
-    let a = c.args in
-    let o = c.item_rows-old_rows.ensures in
-    let of : AreOf a.slice.now.rows c.item_rows-old_rows.result = record { orders = o.orders; lines = o.lines; staged = o.staged; lots = o.lots; recalls = o.recalls; bins = o.bins; stock = o.stock; least = o.least; urgents = o.urgents } in
-    let m = c.in_ok-before.ensures in
-    let n = c.in_ok-after.ensures in
-    let same = between_is a.slice.now a.day c.item_rows-old_rows.result a.rows.now c.in_ok-before.before c.in_ok-after.after of m.day m.rows n.day n.rows a.gtin.now in
-    IfOk-weaker c.replan_between.result _ _ (λ r e. e ∙ same) c.replan_between.ensures
+    let g = c.args.gtin.now in
+    let day = c.args.day in
+    let s = c.args.slice.now in
+    let o = s.rows in
+    let d = c.args.rows.now.demands in
+    let k = c.args.rows.now.supplies in
+    let was : list_any (λ (x : OrderRow). is_open_state x.state) o.orders ≡ false = ap (list_any (λ (x : OrderRow). is_open_state x.state)) (sym c.as_slice.ensures) ∙ sym c.any_open-was_open.ensures ∙ c.if-was_open.false in
+    let will = sym c.any_open-will_be_open.ensures ∙ c.if-will_be_open.false in
+    c.none_replanned.ensures
+    ∙ sym (nothing_replanned g o.orders o.lots (item_demands g o.lines o.staged o.urgents o.orders) (item_supplies g (earliest_seen s.meta.day o.least g) o.recalls o.bins o.stock o.lots)
+    d.orders.now k.lots.now (item_demands g d.lines.now d.staged.now d.urgents.now d.orders.now) (item_supplies g (earliest_seen day k.least.now g) k.recalls.now k.bins.now k.stock.now k.lots.now)
+    (none_demanded g o.lines o.staged o.urgents o.orders was) (none_demanded g d.lines.now d.staged.now d.urgents.now d.orders.now will))

@@ -1,25 +1,42 @@
-use Rattle.std.proofs.Common.{◌∙◌}
+use Rattle.std.proofs.Common.{ℕ, List, ap, ◌∙◌}
 use Rattle.std.specs.Prelude.{flat_map}
 use Rattle.std.proofs.lemmas.Result.{IfOk-weaker}
-use Rattle.row_rules.proofs.Sides.{AreOf, between_is}
+use Rattle.row_rules.specs.Replanning.{replanned_from}
+use Rattle.row_rules.specs.declared.indexed.DemandsIndexed.{DemandsIndexed}
+use Rattle.row_rules.specs.declared.indexed.SuppliesIndexed.{SuppliesIndexed}
+use Rattle.row_rules.proofs.Sides.{AreDemandsOf, AreSuppliesOf, needed, offered, needed_of, offered_of, between_is}
 use Rattle.row_rules.proofs.replanning.replan_items.Goals as goal
 
 pub returns-clause-put : goal.returns-clause-put
 returns-clause-put c =
-    let a = c.args in
-    let o = c.item_rows-old_rows.ensures in
-    let of : AreOf a.slice.now.rows c.item_rows-old_rows.result = record { orders = o.orders; lines = o.lines; staged = o.staged; lots = o.lots; recalls = o.recalls; bins = o.bins; stock = o.stock; least = o.least; urgents = o.urgents } in
-    let m = c.in_ok-before.ensures in
-    let n = c.in_ok-after.ensures in
-    let same = between_is a.slice.now a.day c.item_rows-old_rows.result a.rows.now c.in_ok-before.before c.in_ok-after.after of m.day m.rows n.day n.rows in
-    IfOk-weaker c.replan_each.result _ _ (λ r e. e ∙ (λ i. flat_map (λ g. (same g i).put) a.gtins.now)) c.replan_each.ensures.put
+    let s = c.args.slice.now in
+    let r = c.args.rows.now in
+    let o = c.item_rows-old.ensures in
+    let demands : AreDemandsOf s.rows c.item_rows-old.result.demands = record { orders = o.orders; lines = o.lines; staged = o.staged; urgents = o.urgents } in
+    let supplies : AreSuppliesOf s.rows c.item_rows-old.result.supplies = record { lots = o.lots; recalls = o.recalls; bins = o.bins; stock = o.stock; least = o.least } in
+    let old = c.item_rows-old.result in
+    let m = c.both_indexed-before.ensures in
+    let n = c.both_indexed-after.ensures in
+    let same = λ (g : List ℕ).
+    between_is c.both_indexed-before.result c.both_indexed-after.result s.meta.day c.args.day old.demands r.demands old.supplies r.supplies
+    (ap (λ (x : DemandsIndexed). x.rows) m.demands ∙ c.in_ok-wanted.ensures.rows) (ap (λ (x : SuppliesIndexed). x.day) m.supplies ∙ c.in_ok-offered.ensures.day) (ap (λ (x : SuppliesIndexed). x.rows) m.supplies ∙ c.in_ok-offered.ensures.rows)
+    (ap (λ (x : DemandsIndexed). x.rows) n.demands ∙ c.in_ok-wants.ensures.rows) (ap (λ (x : SuppliesIndexed). x.day) n.supplies ∙ c.in_ok-offers.ensures.day) (ap (λ (x : SuppliesIndexed). x.rows) n.supplies ∙ c.in_ok-offers.ensures.rows) g
+    ∙ (λ i. replanned_from g (o.orders i) (o.lots i) (needed_of g s.rows old.demands demands i) (offered_of g s.meta.day s.rows old.supplies supplies i) r.demands.orders.now r.supplies.lots.now (needed g r.demands) (offered g c.args.day r.supplies)) in
+    IfOk-weaker c.replan_each.result _ _ (λ x e. e ∙ (λ i. flat_map (λ g. (same g i).put) c.args.gtins.now)) c.replan_each.ensures.put
 
 pub returns-clause-dropped : goal.returns-clause-dropped
 returns-clause-dropped c =
-    let a = c.args in
-    let o = c.item_rows-old_rows.ensures in
-    let of : AreOf a.slice.now.rows c.item_rows-old_rows.result = record { orders = o.orders; lines = o.lines; staged = o.staged; lots = o.lots; recalls = o.recalls; bins = o.bins; stock = o.stock; least = o.least; urgents = o.urgents } in
-    let m = c.in_ok-before.ensures in
-    let n = c.in_ok-after.ensures in
-    let same = between_is a.slice.now a.day c.item_rows-old_rows.result a.rows.now c.in_ok-before.before c.in_ok-after.after of m.day m.rows n.day n.rows in
-    IfOk-weaker c.replan_each.result _ _ (λ r e. e ∙ (λ i. flat_map (λ g. (same g i).dropped) a.gtins.now)) c.replan_each.ensures.dropped
+    let s = c.args.slice.now in
+    let r = c.args.rows.now in
+    let o = c.item_rows-old.ensures in
+    let demands : AreDemandsOf s.rows c.item_rows-old.result.demands = record { orders = o.orders; lines = o.lines; staged = o.staged; urgents = o.urgents } in
+    let supplies : AreSuppliesOf s.rows c.item_rows-old.result.supplies = record { lots = o.lots; recalls = o.recalls; bins = o.bins; stock = o.stock; least = o.least } in
+    let old = c.item_rows-old.result in
+    let m = c.both_indexed-before.ensures in
+    let n = c.both_indexed-after.ensures in
+    let same = λ (g : List ℕ).
+    between_is c.both_indexed-before.result c.both_indexed-after.result s.meta.day c.args.day old.demands r.demands old.supplies r.supplies
+    (ap (λ (x : DemandsIndexed). x.rows) m.demands ∙ c.in_ok-wanted.ensures.rows) (ap (λ (x : SuppliesIndexed). x.day) m.supplies ∙ c.in_ok-offered.ensures.day) (ap (λ (x : SuppliesIndexed). x.rows) m.supplies ∙ c.in_ok-offered.ensures.rows)
+    (ap (λ (x : DemandsIndexed). x.rows) n.demands ∙ c.in_ok-wants.ensures.rows) (ap (λ (x : SuppliesIndexed). x.day) n.supplies ∙ c.in_ok-offers.ensures.day) (ap (λ (x : SuppliesIndexed). x.rows) n.supplies ∙ c.in_ok-offers.ensures.rows) g
+    ∙ (λ i. replanned_from g (o.orders i) (o.lots i) (needed_of g s.rows old.demands demands i) (offered_of g s.meta.day s.rows old.supplies supplies i) r.demands.orders.now r.supplies.lots.now (needed g r.demands) (offered g c.args.day r.supplies)) in
+    IfOk-weaker c.replan_each.result _ _ (λ x e. e ∙ (λ i. flat_map (λ g. (same g i).dropped) c.args.gtins.now)) c.replan_each.ensures.dropped

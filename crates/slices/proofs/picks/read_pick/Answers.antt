@@ -1,7 +1,5 @@
-use Rattle.commands.specs.Tables.{Tables}
 use Rattle.known_reads.proofs.ReadSteps.{has_read, read_on, fails_first, fails_later}
-use Rattle.known_reads.proofs.KnowingSteps.{unasked, and_known, known_told}
-use Rattle.slices.specs.Remembering.{KnowsRows}
+use Rattle.known_reads.proofs.KnowingSteps.{and_known, known_told}
 use Rattle.slices.proofs.picks.read_pick.Goals as goal
 
 pub returns-in_err-goods-clause-read : goal.returns-in_err-goods-clause-read
@@ -16,8 +14,7 @@ returns-in_err-shares-clause-read g c = fails_later (read_on (has_read c.in_ok-g
 pub returns-clause-read : goal.returns-clause-read
 returns-clause-read g c =
     let made = c.rows_read.ensures in
-    let knows = λ (t : Tables). KnowsRows t c.read_order.new.rows in
-    known_told (and_known (and_known c.in_ok-goods.ensures.read c.in_ok-ordered.ensures.read) (unasked knows c.in_ok-shares.ensures.read))
+    known_told (and_known (and_known c.in_ok-goods.ensures.read c.in_ok-ordered.ensures.read) c.in_ok-shares.ensures.read)
     (λ t h. record {
       goods = rw (made.same_items, made.same_least, made.same_bins, made.same_lots, made.same_recalls, made.same_stock) h.0.0;
       ordered = rw (made.same_orders, made.same_urgents, made.same_lines) h.0.1;

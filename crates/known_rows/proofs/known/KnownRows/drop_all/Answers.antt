@@ -1,7 +1,7 @@
 use Rattle.std.proofs.Common.{◌≡◌, ◌+◌, ◌∷◌, List, length, drop, sym, ap, subst, ◌∙◌, add-one, drop-cons, arith}
 use Rattle.std.proofs.Math.Seq.{drop-length}
 use Rattle.known_rows.specs.KnownRows.{without_row}
-use Rattle.known_rows.proofs.Maps.{Coming, coming_first, coming_next, all_came}
+use Rattle.known_rows.proofs.Maps.{Coming, coming_first, coming_next, all_came, forgotten}
 use Rattle.known_rows.proofs.known.KnownRows.drop_all.Goals as goal
 
 pub loop-row-init : goal.loop-row-init
@@ -21,3 +21,6 @@ returns g c =
     let end : c.loop-row.row-index ≡ length rows = omega (arith, c.loop-row-test.false, c.loop-row.auto.row-index-end) in
     all_came g.K.Ord.cmp (λ r. g.K.KeyOf.key (g.R.Has.of_row r)) (without_row g.R.KeyedRow.same_row) rows c.args.self.now.rows c.loop-row.self.rows
     (subst (λ (l : List _). Coming g.K.Ord.cmp (λ r. g.K.KeyOf.key (g.R.Has.of_row r)) (without_row g.R.KeyedRow.same_row) rows l c.args.self.now.rows c.loop-row.self.rows) (ap (λ n. drop n rows) end ∙ drop-length rows) c.loop-row.invariant)
+
+pub returns-then-rows-gt-FEW : goal.returns-then-rows-gt-FEW
+returns-then-rows-gt-FEW g c = forgotten g.K.Ord.cmp (λ r. g.K.KeyOf.key (g.R.Has.of_row r)) (without_row g.R.KeyedRow.same_row) c.args.rows.now c.args.self.now.rows c.forget_all.new.self.rows c.forget_all.ensures

@@ -1,9 +1,16 @@
-use Rattle.std.proofs.Common.{sym, ap, ◌∙◌}
+use Rattle.std.proofs.Common.{sym, ap, ◌∙◌, rules}
+use Rattle.std.specs.Option.{option_copied_mut}
+use Rattle.std.specs.BTreeMap.{get}
 use Rattle.known_rows.specs.KnownRows.{without_row}
-use Rattle.known_rows.proofs.Maps.{changes_done}
+use Rattle.known_rows.proofs.Maps.{changes_in, changes_none}
 use Rattle.known_rows.proofs.known.KnownRows.drop_row.Goals as goal
+
+pub returns-in_default : goal.returns-in_default
+returns-in_default g c =
+    changes_none g.K.Ord.cmp (g.K.KeyOf.key (g.R.Has.of_row c.args.row.now)) c.of-key.result (without_row g.R.KeyedRow.same_row c.args.row.now) c.args.self.now.rows (c.of-key.ensures ∙ ap g.K.KeyOf.key c.value.ensures) g.met.K.ExactKey.one_key
+    c.get_mut.follows.lender-at-none (sym (ap option_copied_mut c.in_default.is) ∙ c.get_mut.ensures.value) (λ q. ap (λ m. get g.K.Ord.cmp m q) c.get_mut.follows.holds-at-none)
 
 pub returns : goal.returns
 returns g c =
-    changes_done g.K.Ord.cmp (g.K.KeyOf.key (g.R.Has.of_row c.args.row.now)) c.of-key.result (without_row g.R.KeyedRow.same_row c.args.row.now) c.args.self.now.rows (c.of-key.ensures ∙ ap g.K.KeyOf.key c.value.ensures) g.met.K.ExactKey.one_key
-    c.remove.new.self c.insert.new.self c.in-Some.rows c.drop_from.new.rows c.insert.result (sym c.in-Some.is ∙ c.remove.ensures.value) (c.drop_from.ensures) c.remove.ensures.updates.0 c.insert.ensures.updates c.insert.ensures.err
+    changes_in g.K.Ord.cmp (g.K.KeyOf.key (g.R.Has.of_row c.args.row.now)) c.of-key.result (without_row g.R.KeyedRow.same_row c.args.row.now) c.args.self.now.rows (c.of-key.ensures ∙ ap g.K.KeyOf.key c.value.ensures) g.met.K.ExactKey.one_key
+    (c.get_mut.follows.lender c.drop_from.new.rows) c.in-Some.rows.now c.drop_from.new.rows (sym (ap option_copied_mut c.in-Some.is) ∙ c.get_mut.ensures.value) c.drop_from.ensures ((c.get_mut.follows.holds c.drop_from.new.rows).3 (search rules)).0

@@ -17,11 +17,13 @@ returns c =
     let old = c.args.self.now in
     record {
       lots = subst (λ (rows : List LotRow). ChangesBy lot_key_cmp (λ (r : LotRow). turned_lot r.lot) (with_put same_lot_row) rows old.lots.rows c.put_all.new.self.rows) c.as_slice.ensures c.put_all.ensures;
-      orders = subst (λ (rows : List OrderRow). ChangesBy (slice_cmp nat_cmp) (λ (r : OrderRow). reverse r.order) (with_put same_order_row) rows old.orders.rows c.put_all-2.new.self.rows) c.as_slice-2.ensures c.put_all-2.ensures;
-      urgents = subst (λ (rows : List UrgentRow). ChangesBy (slice_cmp nat_cmp) (λ (r : UrgentRow). reverse r.order) (with_put same_urgent_row) rows old.urgents.rows c.put_all-3.new.self.rows) c.as_slice-3.ensures c.put_all-3.ensures;
-      lines = subst (λ (rows : List LineRow). ChangesBy (slice_cmp nat_cmp) (λ (r : LineRow). reverse r.order) (with_put same_line_row) rows old.lines.rows c.put_all-4.new.self.rows) c.as_slice-4.ensures c.put_all-4.ensures;
-      lines_at = subst (λ (rows : List LineRow). ChangesBy line_key_cmp (λ (r : LineRow). turned_line (r.order, r.gtin)) (with_put same_line_row) rows old.lines_at.rows c.put_all-5.new.self.rows) c.as_slice-5.ensures c.put_all-5.ensures;
+      lots_of = subst (λ (rows : List LotRow). ChangesBy (slice_cmp nat_cmp) (λ (r : LotRow). reverse r.lot.gtin) (with_put same_lot_row) rows old.lots_of.rows c.put_all-2.new.self.rows) c.as_slice-2.ensures c.put_all-2.ensures;
+      orders = subst (λ (rows : List OrderRow). ChangesBy (slice_cmp nat_cmp) (λ (r : OrderRow). reverse r.order) (with_put same_order_row) rows old.orders.rows c.put_all-3.new.self.rows) c.as_slice-3.ensures c.put_all-3.ensures;
+      urgents = subst (λ (rows : List UrgentRow). ChangesBy (slice_cmp nat_cmp) (λ (r : UrgentRow). reverse r.order) (with_put same_urgent_row) rows old.urgents.rows c.put_all-4.new.self.rows) c.as_slice-4.ensures c.put_all-4.ensures;
+      lines = subst (λ (rows : List LineRow). ChangesBy (slice_cmp nat_cmp) (λ (r : LineRow). reverse r.order) (with_put same_line_row) rows old.lines.rows c.put_all-5.new.self.rows) c.as_slice-5.ensures c.put_all-5.ensures;
+      lines_at = subst (λ (rows : List LineRow). ChangesBy line_key_cmp (λ (r : LineRow). turned_line (r.order, r.gtin)) (with_put same_line_row) rows old.lines_at.rows c.put_all-6.new.self.rows) c.as_slice-6.ensures c.put_all-6.ensures;
       stock = c.follow_stock.ensures;
       staged = c.follow_staged.ensures;
+      reserved = c.follow_reserved.ensures;
       meta = refl;
     }

@@ -1,0 +1,3 @@
+pub mod GoingIn
+pub mod ManyAdded
+pub mod Parts

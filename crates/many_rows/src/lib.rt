@@ -1,0 +1,6 @@
+//! Rows that are added eight a statement: a statement is dear for its code, and not for its rows.
+#![tactic(auto)]
+
+pub mod adding;
+pub mod tables;
+pub mod texts;
