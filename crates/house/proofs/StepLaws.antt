@@ -11,6 +11,11 @@ use Rattle.commands.specs.declared.key.Key.{Key}
 use Rattle.commands.specs.declared.command.Command.{Command}
 use Rattle.commands.specs.declared.views.OrderView.{OrderView}
 use Rattle.commands.specs.declared.views.StockView.{StockView}
+use Rattle.overviews.specs.Shown.{books_shown, open_orders_shown, item_names_shown, expiring_shown}
+use Rattle.overviews.specs.declared.lists.BooksView.{BooksView}
+use Rattle.overviews.specs.declared.lists.ExpiringView.{ExpiringView}
+use Rattle.overviews.specs.declared.lists.ItemNamesView.{ItemNamesView}
+use Rattle.overviews.specs.declared.lists.OpenOrdersView.{OpenOrdersView}
 use Rattle.machine.specs.Acts.{Act}
 use Rattle.machine.specs.Standing.{today}
 use Rattle.machine.specs.Once.{Outcome, Accepted, Repeated, Refused, outcome, appended, Tally, tally, file_outcome_of, acts_if_taken}
@@ -24,12 +29,12 @@ use Rattle.requests.specs.declared.fault.WireFault.TheVariants.{Head, Length, Js
 use Rattle.requests.specs.declared.ask.Ask.{Ask}
 use Rattle.requests.specs.declared.ask.Ask.TheVariants.{Do, Scan, GoodsIn, Show}
 use Rattle.requests.specs.declared.ask.Query.{Query}
-use Rattle.requests.specs.declared.ask.Query.TheVariants.{Order, Stock, PickList, Shortages, Card, Notice}
+use Rattle.requests.specs.declared.ask.Query.TheVariants.{Books, OpenOrders, ItemNames, Expiring, Order, Stock, PickList, Shortages, Card, Notice}
 use Rattle.requests.specs.declared.request.Read.{Read}
 use Rattle.requests.specs.declared.request.Read.TheVariants.{Need, Bad, Request}
 use Rattle.wire.specs.Answers.{head_text}
 use Rattle.wire.specs.Shorts.{code_text, code_row_text, tally_text}
-use Rattle.wire.specs.declared.answer.Answer.TheVariants.{Order as OrderAnswer, Stock as StockAnswer, Text}
+use Rattle.wire.specs.declared.answer.Answer.TheVariants.{Books as BooksAnswer, OpenOrders as OpenOrdersAnswer, ItemNames as ItemNamesAnswer, Expiring as ExpiringAnswer, Order as OrderAnswer, Stock as StockAnswer, Text}
 use Rattle.texts.specs.PickList.{pick_list_text}
 use Rattle.texts.specs.Shortages.{shortages_text}
 use Rattle.texts.specs.Card.{card_text}
@@ -143,12 +148,36 @@ unfolding head_text digits
 stock_not_foreign (Ok view) = other (view_answer StockAnswer (Ok view)) 50 refl (lit< tt)
 stock_not_foreign (Err why) = other (view_answer StockAnswer (Err why)) 52 refl (lit< tt)
 
+books_not_foreign : (r : Result BooksView Refusal) → view_answer BooksAnswer r ≢ foreign_books
+unfolding head_text digits
+books_not_foreign (Ok view) = other (view_answer BooksAnswer (Ok view)) 50 refl (lit< tt)
+books_not_foreign (Err why) = other (view_answer BooksAnswer (Err why)) 52 refl (lit< tt)
+
+open_orders_not_foreign : (r : Result OpenOrdersView Refusal) → view_answer OpenOrdersAnswer r ≢ foreign_books
+unfolding head_text digits
+open_orders_not_foreign (Ok view) = other (view_answer OpenOrdersAnswer (Ok view)) 50 refl (lit< tt)
+open_orders_not_foreign (Err why) = other (view_answer OpenOrdersAnswer (Err why)) 52 refl (lit< tt)
+
+item_names_not_foreign : (r : Result ItemNamesView Refusal) → view_answer ItemNamesAnswer r ≢ foreign_books
+unfolding head_text digits
+item_names_not_foreign (Ok view) = other (view_answer ItemNamesAnswer (Ok view)) 50 refl (lit< tt)
+item_names_not_foreign (Err why) = other (view_answer ItemNamesAnswer (Err why)) 52 refl (lit< tt)
+
+expiring_not_foreign : (r : Result ExpiringView Refusal) → view_answer ExpiringAnswer r ≢ foreign_books
+unfolding head_text digits
+expiring_not_foreign (Ok view) = other (view_answer ExpiringAnswer (Ok view)) 50 refl (lit< tt)
+expiring_not_foreign (Err why) = other (view_answer ExpiringAnswer (Err why)) 52 refl (lit< tt)
+
 text_not_foreign : {V : Type 0} (text : V → List ℕ) (r : Result V Refusal) → view_answer (λ v. Text (text v)) r ≢ foreign_books
 unfolding head_text digits
 text_not_foreign text (Ok view) = other (view_answer (λ v. Text (text v)) (Ok view)) 50 refl (lit< tt)
 text_not_foreign text (Err why) = other (view_answer (λ v. Text (text v)) (Err why)) 52 refl (lit< tt)
 
 query_not_foreign : (first : ℤ) (acts : List Act) (q : Query) → query_answer first acts q ≢ foreign_books
+query_not_foreign first acts Books = books_not_foreign (books_shown first acts)
+query_not_foreign first acts (OpenOrders behind) = open_orders_not_foreign (open_orders_shown first acts behind)
+query_not_foreign first acts (ItemNames behind) = item_names_not_foreign (item_names_shown acts behind)
+query_not_foreign first acts (Expiring day behind) = expiring_not_foreign (expiring_shown first acts day behind)
 query_not_foreign first acts (Order order) = order_not_foreign (order_shown first acts order)
 query_not_foreign first acts (Stock gtin) = stock_not_foreign (stock_shown first acts gtin)
 query_not_foreign first acts (PickList order) = text_not_foreign pick_list_text (order_shown first acts order)

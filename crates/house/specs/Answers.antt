@@ -1,5 +1,5 @@
 -- What each reading of a text is answered, and the acts after it. An answer is its bytes.
-use Rattle.std.specs.Prelude.{ℕ, if◌then◌else◌, Bool, List, take, Result, Ok, Err, ℤ}
+use Rattle.std.specs.Prelude.{ℕ, if◌then◌else◌, Bool, List, take, Option, Result, Ok, Err, ℤ}
 use Rattle.values.specs.declared.lot.LotId.{LotId}
 use Rattle.label.specs.Labels.{label_read}
 use Rattle.label.specs.declared.gs1.Label.{Label}
@@ -14,6 +14,7 @@ use Rattle.machine.specs.Acts.{Act}
 use Rattle.machine.specs.Standing.{today}
 use Rattle.machine.specs.Once.{Outcome, Accepted, Repeated, Refused, outcome, acts_after, is_key_of, FileOutcome, Taken, RefusedRow, file_outcome, acts_after_file}
 use Rattle.machine.specs.Queries.{order_shown, short_shown, stock_shown, card_shown, notice_shown}
+use Rattle.overviews.specs.Shown.{books_shown, open_orders_shown, item_names_shown, expiring_shown}
 use Rattle.goodsin.specs.Faults.{file_fault_code}
 use Rattle.goodsin.specs.Files.{file_read}
 use Rattle.goodsin.specs.declared.fault.FileFault.{FileFault}
@@ -22,14 +23,14 @@ use Rattle.store.specs.Filing.{rows_of}
 use Rattle.requests.specs.declared.ask.Ask.{Ask}
 use Rattle.requests.specs.declared.ask.Ask.TheVariants.{Do, Scan, GoodsIn, Show}
 use Rattle.requests.specs.declared.ask.Query.{Query}
-use Rattle.requests.specs.declared.ask.Query.TheVariants.{Order, Stock, PickList, Shortages, Card, Notice}
+use Rattle.requests.specs.declared.ask.Query.TheVariants.{Books, OpenOrders, ItemNames, Expiring, Order, Stock, PickList, Shortages, Card, Notice}
 use Rattle.requests.specs.declared.request.Read.{Read}
 use Rattle.requests.specs.declared.request.Read.TheVariants.{Need, Bad, Request}
 use Rattle.wire.specs.Answers.{answer_bytes}
 use Rattle.wire.specs.Shorts.{code_text}
 pub use Rattle.wire.specs.ShortAnswers.{short_answer, fault_answer, not_served, no_memory, foreign_books, label_answer, tally_answer, row_conflict, cause_answer, cause_row_answer}
 use Rattle.wire.specs.declared.answer.Answer.{Answer}
-use Rattle.wire.specs.declared.answer.Answer.TheVariants.{Order as OrderAnswer, Stock as StockAnswer, Text}
+use Rattle.wire.specs.declared.answer.Answer.TheVariants.{Books as BooksAnswer, OpenOrders as OpenOrdersAnswer, ItemNames as ItemNamesAnswer, Expiring as ExpiringAnswer, Order as OrderAnswer, Stock as StockAnswer, Text}
 use Rattle.texts.specs.PickList.{pick_list_text}
 use Rattle.texts.specs.Shortages.{shortages_text}
 use Rattle.texts.specs.Card.{card_text}
@@ -113,6 +114,18 @@ abbrev pub view_answer : {V : Type 0} → (V → Answer) → Result V Refusal �
 view_answer answer (Ok view) = answer_bytes (answer view)
 view_answer answer (Err why) = short_answer 404 (code_text (refusal_code why))
 
+abbrev pub books_answer : ℤ → List Act → List ℕ
+books_answer first acts = view_answer BooksAnswer (books_shown first acts)
+
+abbrev pub open_orders_answer : ℤ → List Act → Option (List ℕ) → List ℕ
+open_orders_answer first acts behind = view_answer OpenOrdersAnswer (open_orders_shown first acts behind)
+
+abbrev pub item_names_answer : List Act → Option (List ℕ) → List ℕ
+item_names_answer acts behind = view_answer ItemNamesAnswer (item_names_shown acts behind)
+
+abbrev pub expiring_answer : ℤ → List Act → ℤ → Option LotId → List ℕ
+expiring_answer first acts day behind = view_answer ExpiringAnswer (expiring_shown first acts day behind)
+
 abbrev pub order_answer : ℤ → List Act → List ℕ → List ℕ
 order_answer first acts order = view_answer OrderAnswer (order_shown first acts order)
 
@@ -132,6 +145,10 @@ abbrev pub notice_answer : ℤ → List Act → LotId → List ℕ
 notice_answer first acts l = view_answer (λ v. Text (notice_text v)) (notice_shown first acts l)
 
 abbrev pub query_answer : ℤ → List Act → Query → List ℕ
+query_answer first acts Books = books_answer first acts
+query_answer first acts (OpenOrders behind) = open_orders_answer first acts behind
+query_answer first acts (ItemNames behind) = item_names_answer acts behind
+query_answer first acts (Expiring day behind) = expiring_answer first acts day behind
 query_answer first acts (Order order) = order_answer first acts order
 query_answer first acts (Stock gtin) = stock_answer first acts gtin
 query_answer first acts (PickList order) = pick_list_answer first acts order

@@ -1,6 +1,6 @@
 //! The house: books, and the answers to texts.
 
-ghost use Rattle.std.specs.Prelude.{◌≡◌, ◌≢◌, ◌++◌, ℕ, ℤ, List, All, map, codes, IfOk, OnOk, OnErr};
+ghost use Rattle.std.specs.Prelude.{◌≡◌, ◌≢◌, ◌++◌, ℕ, ℤ, List, All, map, codes, IfOk, OnOk, OnErr, IsTrue};
 ghost use Rattle.sqlite.specs.Held.{state};
 ghost use Rattle.sqlite.specs.State.{Survives};
 ghost use Rattle.machine.specs.Acts.{Act};
@@ -17,7 +17,8 @@ use crate::asking::{act, scan};
 use crate::filing::take_in;
 use crate::keeping::{KeepFault, Keeper};
 use crate::showing::{
-    show_card, show_notice, show_order, show_pick_list, show_shortages, show_stock,
+    show_books, show_card, show_expiring, show_item_names, show_notice, show_open_orders,
+    show_order, show_pick_list, show_shortages, show_stock,
 };
 use requests::{Ask, Query, Read, RouteTable, WireFault, read_request};
 use sqlite::Alter;
@@ -124,7 +125,8 @@ impl<S: Alter> House<S> {
         ensures kept { IsClean S.Store (books_of self.new) → (first begun : ℤ) (newer older : List Act) → IsHistory first (newer ++ older) → HoldsBooks S.Store first (newer ++ older) (books_of self.old)
             → (TellsNoAct answer.now → newer ++ older ≡ older) → K.keeps keeper.old begun older → OnOk result (K.keeps keeper.new begun (newer ++ older)) }
         ensures begins { OnErr result ((begun : ℤ) (acts : List Act) → K.keeps keeper.old begun acts → K.begins keeper.new begun acts) }
-        ensures calm { K.is_clean keeper.new ≡ K.is_clean keeper.old }
+        ensures loses { (text : List ℕ) → K.has_text keeper.old text → K.has_text keeper.new text }
+        ensures calm { IsTrue (K.is_clean keeper.new) → IsTrue (K.is_clean keeper.old) }
     {
         if answer.may_tell_of_acts() {
             keeper.bring_up(self.alloc, &mut self.books)
@@ -154,6 +156,10 @@ fn answer_ask<S: Alter>(alloc: Global, books: &mut Books<S>, ask: &Ask) -> Answe
             qty,
         } => Answered::Short(scan(books, *delivery, *line, label.as_slice(), *bin, *qty)),
         Ask::GoodsIn(file) => Answered::Short(take_in(alloc, books, file.as_slice())),
+        Ask::Show(Query::Books) => show_books(alloc, books),
+        Ask::Show(Query::OpenOrders(behind)) => show_open_orders(alloc, books, *behind),
+        Ask::Show(Query::ItemNames(behind)) => show_item_names(alloc, books, *behind),
+        Ask::Show(Query::Expiring(day, behind)) => show_expiring(alloc, books, *day, *behind),
         Ask::Show(Query::Order(order)) => show_order(alloc, books, order),
         Ask::Show(Query::Stock(gtin)) => show_stock(alloc, books, gtin),
         Ask::Show(Query::PickList(order)) => show_pick_list(alloc, books, order),

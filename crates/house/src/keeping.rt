@@ -1,6 +1,6 @@
 //! Where acts are kept beside the books, before they are answered.
 
-ghost use Rattle.std.specs.Prelude.{◌≡◌, ◌++◌, ℤ, List, Bool, OnOk};
+ghost use Rattle.std.specs.Prelude.{◌++◌, ℕ, ℤ, List, Bool, OnOk, IsTrue};
 ghost use Rattle.sqlite.specs.Held.{state};
 ghost use Rattle.sqlite.specs.State.{Survives};
 ghost use Rattle.machine.specs.Acts.{Act};
@@ -29,11 +29,14 @@ pub trait Keeper<S: Alter> {
     // Whatever a stop leaves of it begins with these acts.
     ghost begins: { Self → ℤ → List Act → Type 0 };
 
+    // Whatever a stop leaves of it begins with these bytes, whatever they are.
+    ghost has_text: { Self → List ℕ → Type 0 };
+
     // Its place has returned what was written there.
     ghost is_clean: { Self → Bool };
 
-    /// Adds the acts that the books have and it lacks. Nothing of the books is changed. After a fault it is not to be asked
-    /// again.
+    /// Adds the acts that the books have and it lacks. Nothing of the books is changed, and nothing that it had is lost,
+    /// whatever the books are. After a fault it is not to be asked again.
     fn bring_up(&mut self, alloc: Global, books: &mut Books<S>) -> Result<(), KeepFault>
         ensures clean { IsClean S.Store books.new → IsClean S.Store books.old }
         ensures holds { IsClean S.Store books.new → (first : ℤ) (acts : List Act) → IsHistory first acts → HoldsBooks S.Store first acts books.old
@@ -43,7 +46,8 @@ pub trait Keeper<S: Alter> {
         ensures kept { IsClean S.Store books.new → (first begun : ℤ) (newer older : List Act) → IsHistory first (newer ++ older) → HoldsBooks S.Store first (newer ++ older) books.old → keeps self.old begun older
             → OnOk result (keeps self.new begun (newer ++ older)) }
         ensures begins { (begun : ℤ) (older : List Act) → keeps self.old begun older → begins self.new begun older }
-        ensures calm { is_clean self.new ≡ is_clean self.old };
+        ensures loses { (text : List ℕ) → has_text self.old text → has_text self.new text }
+        ensures calm { IsTrue (is_clean self.new) → IsTrue (is_clean self.old) };
 }
 
 /// Keeps nothing, where no second place is asked for.
@@ -56,6 +60,8 @@ impl<S: Alter> Keeper<S> for NoKeeper {
     ghost keeps = { λ _ _ _. Unit {0} };
 
     ghost begins = { λ _ _ _. Unit {0} };
+
+    ghost has_text = { λ _ _. Unit {0} };
 
     ghost is_clean = { λ _. true };
 

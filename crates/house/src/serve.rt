@@ -1,6 +1,6 @@
 //! One request from a reader, its answer to a writer, and its line to a log.
 
-ghost use Rattle.std.specs.Prelude.{◌≡◌, ◌≢◌, ℤ, List, Result, Ok, Err, OnErr, IfErr};
+ghost use Rattle.std.specs.Prelude.{◌≡◌, ◌≢◌, ℕ, ℤ, List, Result, Ok, Err, OnErr, IfErr, IsTrue};
 ghost use Rattle.machine.specs.Acts.{Act};
 ghost use Rattle.machine.specs.Once.{IsHistory};
 ghost use Rattle.texts.specs.Writing.{Writes};
@@ -76,7 +76,7 @@ impl<S: Alter> House<S> {
 
     /// The same, and what was done is kept before a byte of its answer is written. The keeper is asked where an act or a file
     /// is answered with status 200. Where it fails what was done stands and nothing is written: the same request gets its
-    /// answer when it comes again.
+    /// answer when it comes again. Nothing that it had is lost, whatever the books are.
     pub fn serve_one_kept<R: Read, W: Write, L: Write, K: Keeper<S>>(
         &mut self,
         reader: &mut R,
@@ -99,7 +99,8 @@ impl<S: Alter> House<S> {
             → IsKeptIfTold S.Store first (K.keeps keeper.new begun) (books_of self.new) (writer.new ≡ writer.old) }
         ensures untold { OnErr result.kept (writer.new ≡ writer.old) }
         ensures begins { OnErr result.kept ((begun : ℤ) (acts : List Act) → K.keeps keeper.old begun acts → K.begins keeper.new begun acts) }
-        ensures calm { K.is_clean keeper.new ≡ K.is_clean keeper.old }
+        ensures loses { (text : List ℕ) → K.has_text keeper.old text → K.has_text keeper.new text }
+        ensures calm { IsTrue (K.is_clean keeper.new) → IsTrue (K.is_clean keeper.old) }
     {
         match read_whole(self.alloc, &mut self.routes, reader) {
             Ok(heard) => {

@@ -7,7 +7,7 @@ ghost use Rattle.wire.specs.Answers.{answer_bytes};
 ghost use Rattle.store.specs.Books.{IsClean, AreAsBefore};
 ghost use Rattle.texts.specs.PickList.{pick_list_text};
 ghost use Rattle.texts.specs.Shortages.{shortages_text};
-ghost use Rattle.house.specs.Answers.{order_answer, stock_answer, pick_list_answer, shortages_answer, card_answer, notice_answer, no_memory};
+ghost use Rattle.house.specs.Answers.{books_answer, open_orders_answer, item_names_answer, expiring_answer, order_answer, stock_answer, pick_list_answer, shortages_answer, card_answer, notice_answer, no_memory};
 ghost use Rattle.house.specs.Asking.{Does, IsTextOf, asked_answer};
 ghost use Rattle.house.specs.House.{bytes_of, IsLongIfOk};
 ghost use Rattle.house.specs.LotTexts.{text_answer};
@@ -16,6 +16,7 @@ use crate::Answered;
 use crate::answered::answer_query_fault;
 use crate::lot_texts::{write_card, write_notice};
 use commands::{Listed, OrderView, ShortView};
+use label::BusinessDay;
 use requests::WireFault;
 use sqlite::Alter;
 use std::alloc::Global;
@@ -24,6 +25,67 @@ use texts::{pick_list, shortages};
 use values::{Gtin, LotId, Name};
 use wire::short_answers::fault_answer;
 use wire::{Answer, write_answer};
+
+/// Shows the books.
+pub(crate) fn show_books<S: Alter>(alloc: Global, books: &mut Books<S>) -> Answered
+    ensures clean { IsClean S.Store books.new → IsClean S.Store books.old }
+    ensures shown { IsClean S.Store books.new → (first : ℤ) (acts : List Act) → IsHistory first acts
+        → Does S.Store first acts books.old (books_answer first acts) acts (bytes_of result) books.new }
+    ensures as_before { IsClean S.Store books.new → AreAsBefore S.Store books.old books.new }
+    ensures in_place { IsLongIfOk result }
+{
+    let shown = books.summary().map(Answer::Books);
+    answer_shown(alloc, shown)
+}
+
+/// Shows open orders, from their first or behind an order.
+pub(crate) fn show_open_orders<S: Alter>(
+    alloc: Global,
+    books: &mut Books<S>,
+    behind: Option<Name>,
+) -> Answered
+    ensures clean { IsClean S.Store books.new → IsClean S.Store books.old }
+    ensures shown { IsClean S.Store books.new → (first : ℤ) (acts : List Act) → IsHistory first acts
+        → Does S.Store first acts books.old (open_orders_answer first acts behind) acts (bytes_of result) books.new }
+    ensures as_before { IsClean S.Store books.new → AreAsBefore S.Store books.old books.new }
+    ensures in_place { IsLongIfOk result }
+{
+    let shown = books.open_orders(behind).map(Answer::OpenOrders);
+    answer_shown(alloc, shown)
+}
+
+/// Shows items, from their first or behind an item.
+pub(crate) fn show_item_names<S: Alter>(
+    alloc: Global,
+    books: &mut Books<S>,
+    behind: Option<Gtin>,
+) -> Answered
+    ensures clean { IsClean S.Store books.new → IsClean S.Store books.old }
+    ensures shown { IsClean S.Store books.new → (first : ℤ) (acts : List Act) → IsHistory first acts
+        → Does S.Store first acts books.old (item_names_answer acts behind) acts (bytes_of result) books.new }
+    ensures as_before { IsClean S.Store books.new → AreAsBefore S.Store books.old books.new }
+    ensures in_place { IsLongIfOk result }
+{
+    let shown = books.item_names(behind).map(Answer::ItemNames);
+    answer_shown(alloc, shown)
+}
+
+/// Shows lots that expire up to a day, from their first or behind a lot.
+pub(crate) fn show_expiring<S: Alter>(
+    alloc: Global,
+    books: &mut Books<S>,
+    day: BusinessDay,
+    behind: Option<LotId>,
+) -> Answered
+    ensures clean { IsClean S.Store books.new → IsClean S.Store books.old }
+    ensures shown { IsClean S.Store books.new → (first : ℤ) (acts : List Act) → IsHistory first acts
+        → Does S.Store first acts books.old (expiring_answer first acts day behind) acts (bytes_of result) books.new }
+    ensures as_before { IsClean S.Store books.new → AreAsBefore S.Store books.old books.new }
+    ensures in_place { IsLongIfOk result }
+{
+    let shown = books.expiring(day, behind).map(Answer::Expiring);
+    answer_shown(alloc, shown)
+}
 
 /// Shows an order.
 pub(crate) fn show_order<S: Alter>(alloc: Global, books: &mut Books<S>, order: &Name) -> Answered

@@ -6,4 +6,8 @@ pub mod ShownShort
 pub mod Heads
 pub mod Shipped
 pub mod ShownActs
+pub mod ShownBooks
+pub mod ShownOpen
 pub mod Refused
+pub mod ShownNames
+pub mod ShownExpiring

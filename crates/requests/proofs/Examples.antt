@@ -7,7 +7,7 @@ use Rattle.percent_encoding.specs.Percent.{percent_decode}
 use Rattle.serde_json.specs.Read.{read}
 use Rattle.requests.specs.Routes.{table, route_of}
 use Rattle.requests.specs.Head.{length_value, body_length}
-use Rattle.requests.specs.Requests.{read_ask, second_segment, third_segment, query_of}
+use Rattle.requests.specs.Requests.{read_ask, second_segment, third_segment, inner_segment, fourth_segment, query_of}
 use Rattle.requests.specs.Fields.{whole_at, delta_at}
 use Rattle.requests.specs.Bodies.{body_of}
 use Rattle.commands.specs.declared.key.Key.TheVariants.{Plain}
@@ -16,9 +16,9 @@ use Rattle.requests.specs.declared.fault.WireFault.TheVariants.{Length, Path, Fi
 use Rattle.requests.specs.declared.method.Method.TheVariants.{Get, Post}
 use Rattle.requests.specs.declared.routes.Route.TheVariants.{Post as PostTo, Get as GetOf}
 use Rattle.requests.specs.declared.routes.Posted.TheVariants.{Items, Bins, Receipts, Counts, Orders, Recalls, Days, Leasts, Urgents, GoodsIn}
-use Rattle.requests.specs.declared.routes.Shown.TheVariants.{Order as AnOrder, Stock as TheStock, PickList as APickList, Shortages as TheShortages, Card, Notice as ANotice}
+use Rattle.requests.specs.declared.routes.Shown.TheVariants.{Order as AnOrder, Stock as TheStock, PickList as APickList, Shortages as TheShortages, Card, Notice as ANotice, Books, OpenOrders, OpenOrdersBehind, ItemNames, ItemNamesBehind, Expiring, ExpiringBehind}
 use Rattle.requests.specs.declared.ask.Ask.TheVariants.{Do, GoodsIn as FileOf}
-use Rattle.requests.specs.declared.ask.Query.TheVariants.{Card as CardOf}
+use Rattle.requests.specs.declared.ask.Query.TheVariants.{Card as CardOf, OpenOrders as OpenOrdersFrom}
 
 -- routes
 
@@ -130,7 +130,60 @@ pub a_card_of_no_lot : route_of (codes "/cards/09506000134352") ≡ None
 unfolding matchit_on_literals table
 a_card_of_no_lot = refl
 
+pub the_books : route_of (codes "/books") ≡ Some (GetOf Books)
+unfolding matchit_on_literals table
+the_books = refl
+
+pub books_have_no_parts : route_of (codes "/books/") ≡ None
+unfolding matchit_on_literals table
+books_have_no_parts = refl
+
+pub open_orders : route_of (codes "/openorders") ≡ Some (GetOf OpenOrders)
+unfolding matchit_on_literals table
+open_orders = refl
+
+pub open_orders_behind_one : route_of (codes "/openorders/S-1") ≡ Some (GetOf OpenOrdersBehind)
+unfolding matchit_on_literals table
+open_orders_behind_one = refl
+
+pub items_by_name : route_of (codes "/itemnames") ≡ Some (GetOf ItemNames)
+unfolding matchit_on_literals table
+items_by_name = refl
+
+pub items_behind_one : route_of (codes "/itemnames/09506000134352") ≡ Some (GetOf ItemNamesBehind)
+unfolding matchit_on_literals table
+items_behind_one = refl
+
+pub lots_that_expire : route_of (codes "/expiring/2026-05-31") ≡ Some (GetOf Expiring)
+unfolding matchit_on_literals table
+lots_that_expire = refl
+
+-- the values are judged later
+pub lots_behind_one : route_of (codes "/expiring/d/g/l") ≡ Some (GetOf ExpiringBehind)
+unfolding matchit_on_literals table
+lots_behind_one = refl
+
+pub half_a_lot : route_of (codes "/expiring/d/g") ≡ None
+unfolding matchit_on_literals table
+half_a_lot = refl
+
+pub open_orders_are_not_posted : read_ask (codes "POST") (codes "/openorders") [] ≡ Err (OtherMethod Get)
+unfolding matchit_on_literals table
+open_orders_are_not_posted = refl
+
 -- values in a path
+
+pub a_gtin_behind_a_day : inner_segment (codes "/expiring/2026-05-31/09506000134352/A%2FB") ≡ codes "09506000134352"
+unfolding percent_decode
+a_gtin_behind_a_day = refl
+
+pub a_lot_behind_a_gtin : fourth_segment (codes "/expiring/2026-05-31/09506000134352/A%2FB") ≡ codes "A/B"
+unfolding percent_decode
+a_lot_behind_a_gtin = refl
+
+pub open_orders_behind_a_name : query_of OpenOrdersBehind (codes "/openorders/S-1") ≡ Some (OpenOrdersFrom (Some (codes "S-1")))
+unfolding percent_decode
+open_orders_behind_a_name = refl
 
 pub an_escaped_digit : second_segment (codes "/stock/0950600013435%32") ≡ codes "09506000134352"
 unfolding percent_decode

@@ -9,7 +9,7 @@
 --   8  of a POST, the body as JSON: `json`
 --   9  its fields: `body_of`
 -- A definition stands after those that it uses, so the steps are read from `IsReading`, at the end, upwards.
-use Rattle.std.specs.Prelude.{◌≡◌, ℕ, List, [], ◌∷◌, length, take, drop, ◌==◌, nat_lt, if◌then◌else◌, Option, Some, None, option_map, option_and_then, Result, Ok, Err, MatchOption, ◌⊎◌}
+use Rattle.std.specs.Prelude.{◌≡◌, ℕ, ℤ, List, [], ◌∷◌, length, take, drop, ◌==◌, nat_lt, if◌then◌else◌, Option, Some, None, option_map, option_and_then, Result, Ok, Err, MatchOption, ◌⊎◌}
 use Rattle.std.specs.Str.{bytes_eq}
 use Rattle.std.specs.Option.{ok_or}
 use Rattle.httparse.specs.Grammar.{RequestHead}
@@ -17,6 +17,7 @@ use Rattle.percent_encoding.specs.Percent.{percent_decode}
 use Rattle.serde_json.specs.Data.{Data}
 use Rattle.values.specs.Values.{checked, is_name, is_gtin, is_lot_text}
 use Rattle.values.specs.declared.lot.LotId.{LotId}
+use Rattle.label.specs.Days.{is_business_day, parsed_day}
 use Rattle.requests.specs.Head.{HEAD_MAX, head_end, IsHead, fields_of, body_length}
 use Rattle.requests.specs.Routes.{route_of, method_of, method_name}
 use Rattle.requests.specs.Fields.{json}
@@ -26,13 +27,13 @@ use Rattle.requests.specs.declared.fault.WireFault.TheVariants.{Head, Length, Js
 use Rattle.requests.specs.declared.routes.Route.{Route}
 use Rattle.requests.specs.declared.routes.Route.TheVariants.{Post, Get}
 use Rattle.requests.specs.declared.routes.Shown.{Shown}
-use Rattle.requests.specs.declared.routes.Shown.TheVariants.{Stock, Order, PickList, Shortages, Card, Notice}
+use Rattle.requests.specs.declared.routes.Shown.TheVariants.{Books, OpenOrders, OpenOrdersBehind, ItemNames, ItemNamesBehind, Expiring, ExpiringBehind, Stock, Order, PickList, Shortages, Card, Notice}
 use Rattle.requests.specs.declared.routes.Posted.{Posted}
 use Rattle.requests.specs.declared.routes.Posted.TheVariants.{GoodsIn as ToGoodsIn}
 use Rattle.requests.specs.declared.ask.Ask.{Ask}
 use Rattle.requests.specs.declared.ask.Ask.TheVariants.{GoodsIn, Show}
 use Rattle.requests.specs.declared.ask.Query.{Query}
-use Rattle.requests.specs.declared.ask.Query.TheVariants.{Stock as StockOf, Order as OrderNamed, PickList as PickListOf, Shortages as ShortagesOf, Card as CardOf, Notice as NoticeOf}
+use Rattle.requests.specs.declared.ask.Query.TheVariants.{Books as AllBooks, OpenOrders as OpenOrdersFrom, ItemNames as ItemNamesFrom, Expiring as ExpiringFrom, Stock as StockOf, Order as OrderNamed, PickList as PickListOf, Shortages as ShortagesOf, Card as CardOf, Notice as NoticeOf}
 use Rattle.requests.specs.declared.request.Read.{Read}
 use Rattle.requests.specs.declared.request.Read.TheVariants.{Need, Bad, Request}
 
@@ -48,12 +49,19 @@ abbrev pub before_slash : List ℕ → List ℕ
 before_slash [] = []
 before_slash (c ∷ cs) = if c == 47 then [] else c ∷ before_slash cs
 
--- the second segment of a path and the third, escapes replaced
+-- the second segment of a path, and all that stands behind it, escapes replaced
 abbrev pub second_segment : List ℕ → List ℕ
 second_segment target = percent_decode (before_slash (after_slash (after_slash target)))
 
 abbrev pub third_segment : List ℕ → List ℕ
 third_segment target = percent_decode (after_slash (after_slash (after_slash target)))
+
+-- the third segment alone, and all that stands behind it
+abbrev pub inner_segment : List ℕ → List ℕ
+inner_segment target = percent_decode (before_slash (after_slash (after_slash (after_slash target))))
+
+abbrev pub fourth_segment : List ℕ → List ℕ
+fourth_segment target = percent_decode (after_slash (after_slash (after_slash (after_slash target))))
 
 abbrev pub gtin_in : List ℕ → Option (List ℕ)
 gtin_in target = checked is_gtin (second_segment target)
@@ -61,13 +69,29 @@ gtin_in target = checked is_gtin (second_segment target)
 abbrev pub order_in : List ℕ → Option (List ℕ)
 order_in target = checked is_name (second_segment target)
 
+abbrev pub day_in : List ℕ → Option ℤ
+day_in target = option_and_then (checked is_business_day) (parsed_day (second_segment target))
+
+-- the lot that two texts name
+abbrev pub lot_named : List ℕ → List ℕ → Option LotId
+lot_named gtin lot = option_and_then (λ g. option_map (λ l. record { gtin = g; lot = l }) (checked is_lot_text lot)) (checked is_gtin gtin)
+
 abbrev pub lot_in : List ℕ → Option LotId
-lot_in target =
-    option_and_then (λ gtin. option_map (λ lot. record { gtin = gtin; lot = lot }) (checked is_lot_text (third_segment target)))
-    (gtin_in target)
+lot_in target = lot_named (second_segment target) (third_segment target)
+
+-- the lot behind another value
+abbrev pub lot_behind : List ℕ → Option LotId
+lot_behind target = lot_named (inner_segment target) (fourth_segment target)
 
 -- what a path shows, where each value in it keeps its rule
 abbrev pub query_of : Shown → List ℕ → Option Query
+query_of Books target = Some AllBooks
+query_of OpenOrders target = Some (OpenOrdersFrom None)
+query_of OpenOrdersBehind target = option_map (λ order. OpenOrdersFrom (Some order)) (order_in target)
+query_of ItemNames target = Some (ItemNamesFrom None)
+query_of ItemNamesBehind target = option_map (λ gtin. ItemNamesFrom (Some gtin)) (gtin_in target)
+query_of Expiring target = option_map (λ day. ExpiringFrom day None) (day_in target)
+query_of ExpiringBehind target = option_and_then (λ day. option_map (λ lot. ExpiringFrom day (Some lot)) (lot_behind target)) (day_in target)
 query_of Stock target = option_map StockOf (gtin_in target)
 query_of Order target = option_map OrderNamed (order_in target)
 query_of PickList target = option_map PickListOf (order_in target)

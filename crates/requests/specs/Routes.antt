@@ -13,7 +13,7 @@ use Rattle.requests.specs.declared.method.Method.TheVariants.{Get, Post}
 use Rattle.requests.specs.declared.routes.Route.{Route}
 use Rattle.requests.specs.declared.routes.Route.TheVariants.{Post as PostTo, Get as GetOf}
 use Rattle.requests.specs.declared.routes.Posted.TheVariants.{Items, Bins, Receipts, Moves, Counts, Adjustments, Orders, Cancels, Picks, Unpicks, Shipments, Holds, Releases, Recalls, Days, Leasts, Urgents, GoodsIn}
-use Rattle.requests.specs.declared.routes.Shown.TheVariants.{Order, Stock, PickList, Shortages, Card, Notice}
+use Rattle.requests.specs.declared.routes.Shown.TheVariants.{Order, Stock, PickList, Shortages, Card, Notice, Books, OpenOrders, OpenOrdersBehind, ItemNames, ItemNamesBehind, Expiring, ExpiringBehind}
 
 -- the rows of a table
 abbrev pub Rows : Type 0
@@ -63,6 +63,13 @@ served =
     ∷ (codes "/shortages/{gtin}", GetOf Shortages)
     ∷ (codes "/cards/{gtin}/{lot}", GetOf Card)
     ∷ (codes "/notices/{gtin}/{lot}", GetOf Notice)
+    ∷ (codes "/books", GetOf Books)
+    ∷ (codes "/openorders", GetOf OpenOrders)
+    ∷ (codes "/openorders/{order}", GetOf OpenOrdersBehind)
+    ∷ (codes "/itemnames", GetOf ItemNames)
+    ∷ (codes "/itemnames/{gtin}", GetOf ItemNamesBehind)
+    ∷ (codes "/expiring/{day}", GetOf Expiring)
+    ∷ (codes "/expiring/{day}/{gtin}/{lot}", GetOf ExpiringBehind)
     ∷ []
 
 unfoldable pub table : Rows

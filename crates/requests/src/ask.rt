@@ -1,9 +1,18 @@
 use commands::{Command, Key, Listed};
+use label::BusinessDay;
 use values::{Gtin, LineNo, LotId, Name, Qty};
 
 /// What a GET shows.
 #[derive(Clone, Copy)]
 pub enum Query {
+    /// The books.
+    Books,
+    /// The open orders, from their first or behind an order.
+    OpenOrders(Option<Name>),
+    /// The items, from their first or behind an item.
+    ItemNames(Option<Gtin>),
+    /// The lots that expire up to a day, from their first or behind a lot.
+    Expiring(BusinessDay, Option<LotId>),
     /// The stock of an item.
     Stock(Gtin),
     /// An order.

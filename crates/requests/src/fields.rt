@@ -2,6 +2,7 @@ ghost use Rattle.std.specs.Prelude.{◌≡◌, Some, None, IfOk, IfErr, ◌≢�
 ghost use Rattle.serde_json.specs.View.{view, items_view};
 ghost use Rattle.serde_json.specs.Find.{get, as_array};
 ghost use Rattle.values.specs.Values.{checked, is_gtin, is_lot_text};
+ghost use Rattle.label.specs.Days.{is_business_day, parsed_day};
 ghost use Rattle.requests.specs.Fields.{json, is_object_of as is_object_of_lem, text_at as text_at_lem, whole_at as whole_at_lem, signed_at as signed_at_lem, name_at as name_at_lem, title_at as title_at_lem, gtin_at as gtin_at_lem, lot_at as lot_at_lem, qty_at as qty_at_lem, counted_at as counted_at_lem, delta_at as delta_at_lem, line_at as line_at_lem, business_day_at as business_day_at_lem, kind_at as kind_at_lem, lot_id_at as lot_id_at_lem, least_days_at as least_days_at_lem};
 
 use crate::WireFault;
@@ -87,6 +88,13 @@ pub fn lot_of(text: &[u8]) -> Option<Lot>
     }
 }
 
+/// The business day that a text is.
+pub fn business_day_of(text: &[u8]) -> Option<BusinessDay>
+    ensures { result ≡ option_and_then (checked is_business_day) (parsed_day text.now) }
+{
+    BusinessDay::new(Day::parse(text)?)
+}
+
 pub fn name_at(value: &Value, name: &str) -> Option<Name>
     ensures { result ≡ name_at_lem name.now (view value.now) }
 {
@@ -153,7 +161,7 @@ pub fn least_days_at(value: &Value, name: &str) -> Option<LeastDays>
 pub fn business_day_at(value: &Value, name: &str) -> Option<BusinessDay>
     ensures { result ≡ business_day_at_lem name.now (view value.now) }
 {
-    BusinessDay::new(Day::parse(text_at(value, name)?.as_bytes())?)
+    business_day_of(text_at(value, name)?.as_bytes())
 }
 
 /// The kind of bin under a name: `STORE` or `HOLD`.

@@ -1,14 +1,15 @@
 ghost use Rattle.std.specs.Prelude.{◌≡◌, ◌≢◌, ◌≤◌, Some, None, Ok, Err, IfOk, IfErr, IsUtf8, length, take};
 ghost use Rattle.percent_encoding.specs.Percent.{percent_decode as percent_decode_lem};
-ghost use Rattle.requests.specs.Requests.{after_slash as after_slash_lem, before_slash as before_slash_lem, second_segment as second_segment_lem, third_segment as third_segment_lem, gtin_in as gtin_in_lem, order_in as order_in_lem, lot_in as lot_in_lem, query_of as query_of_lem, posted as posted_lem, read_route as read_route_lem, read_ask as read_ask_lem, answered as answered_lem, after_head as after_head_lem, IsReading};
+ghost use Rattle.requests.specs.Requests.{after_slash as after_slash_lem, before_slash as before_slash_lem, second_segment as second_segment_lem, third_segment as third_segment_lem, inner_segment as inner_segment_lem, fourth_segment as fourth_segment_lem, gtin_in as gtin_in_lem, order_in as order_in_lem, day_in as day_in_lem, lot_named as lot_named_lem, lot_in as lot_in_lem, lot_behind as lot_behind_lem, query_of as query_of_lem, posted as posted_lem, read_route as read_route_lem, read_ask as read_ask_lem, answered as answered_lem, after_head as after_head_lem, IsReading};
 ghost use Rattle.requests.specs.Head.{HEAD_MAX};
 
 use crate::bodies::body_of;
-use crate::fields::{gtin_of, json_value, lot_of};
+use crate::fields::{business_day_of, gtin_of, json_value, lot_of};
 use crate::head::{Head, LONGEST_HEAD, head_end, read_head};
 use crate::routes::{Posted, Route, RouteTable, Shown, method_of};
 use crate::{Ask, Query, WireFault};
 use commands::Listed;
+use label::BusinessDay;
 use percent_encoding::percent_decode;
 use std::alloc::Global;
 use values::{Gtin, LotId, Name};
@@ -74,6 +75,26 @@ fn third_segment(alloc: Global, target: &[u8]) -> Result<Vec<u8>, WireFault>
     decoded(alloc, after_slash(after_slash(after_slash(target))))
 }
 
+fn inner_segment(alloc: Global, target: &[u8]) -> Result<Vec<u8>, WireFault>
+    ensures ok { IfOk result (λ v. v.items ≡ inner_segment_lem target.now) }
+    ensures err { IfErr result (λ e. e ≡ WireFault.Memory) }
+{
+    decoded(
+        alloc,
+        before_slash(after_slash(after_slash(after_slash(target)))),
+    )
+}
+
+fn fourth_segment(alloc: Global, target: &[u8]) -> Result<Vec<u8>, WireFault>
+    ensures ok { IfOk result (λ v. v.items ≡ fourth_segment_lem target.now) }
+    ensures err { IfErr result (λ e. e ≡ WireFault.Memory) }
+{
+    decoded(
+        alloc,
+        after_slash(after_slash(after_slash(after_slash(target)))),
+    )
+}
+
 fn gtin_in(alloc: Global, target: &[u8]) -> Result<Gtin, WireFault>
     ensures ok { IfOk result (λ v. gtin_in_lem target.now ≡ Some v) }
     ensures err { IfErr result (λ e. e ≢ WireFault.Memory → (e ≡ WireFault.Field)
@@ -92,17 +113,80 @@ fn order_in(alloc: Global, target: &[u8]) -> Result<Name, WireFault>
     Name::new(part.as_slice()).ok_or(WireFault::Field)
 }
 
+fn day_in(alloc: Global, target: &[u8]) -> Result<BusinessDay, WireFault>
+    ensures ok { IfOk result (λ v. day_in_lem target.now ≡ Some v) }
+    ensures err { IfErr result (λ e. e ≢ WireFault.Memory → (e ≡ WireFault.Field)
+        × (day_in_lem target.now ≡ None)) }
+{
+    let part = second_segment(alloc, target)?;
+    business_day_of(part.as_slice()).ok_or(WireFault::Field)
+}
+
+fn lot_named(gtin: &[u8], lot: &[u8]) -> Option<LotId>
+    ensures { result ≡ lot_named_lem gtin.now lot.now }
+{
+    let gtin = gtin_of(gtin)?;
+    let lot = lot_of(lot)?;
+    Some(LotId { gtin, lot })
+}
+
 fn lot_in(alloc: Global, target: &[u8]) -> Result<LotId, WireFault>
     ensures ok { IfOk result (λ v. lot_in_lem target.now ≡ Some v) }
     ensures err { IfErr result (λ e. e ≢ WireFault.Memory → (e ≡ WireFault.Field)
         × (lot_in_lem target.now ≡ None)) }
 {
+    let gtin = second_segment(alloc, target)?;
+    let lot = third_segment(alloc, target)?;
+    lot_named(gtin.as_slice(), lot.as_slice()).ok_or(WireFault::Field)
+}
+
+fn lot_behind(alloc: Global, target: &[u8]) -> Result<LotId, WireFault>
+    ensures ok { IfOk result (λ v. lot_behind_lem target.now ≡ Some v) }
+    ensures err { IfErr result (λ e. e ≢ WireFault.Memory → (e ≡ WireFault.Field)
+        × (lot_behind_lem target.now ≡ None)) }
+{
+    let gtin = inner_segment(alloc, target)?;
+    let lot = fourth_segment(alloc, target)?;
+    lot_named(gtin.as_slice(), lot.as_slice()).ok_or(WireFault::Field)
+}
+
+// Lists behind what was seen last
+
+fn open_orders_behind(alloc: Global, target: &[u8]) -> Result<Query, WireFault>
+    ensures ok { IfOk result (λ q. query_of_lem Shown.OpenOrdersBehind target.now ≡ Some q) }
+    ensures err { IfErr result (λ e. e ≢ WireFault.Memory → (e ≡ WireFault.Field)
+        × (query_of_lem Shown.OpenOrdersBehind target.now ≡ None)) }
+{
+    let order = order_in(alloc, target)?;
+    Ok(Query::OpenOrders(Some(order)))
+}
+
+fn item_names_behind(alloc: Global, target: &[u8]) -> Result<Query, WireFault>
+    ensures ok { IfOk result (λ q. query_of_lem Shown.ItemNamesBehind target.now ≡ Some q) }
+    ensures err { IfErr result (λ e. e ≢ WireFault.Memory → (e ≡ WireFault.Field)
+        × (query_of_lem Shown.ItemNamesBehind target.now ≡ None)) }
+{
     let gtin = gtin_in(alloc, target)?;
-    let part = third_segment(alloc, target)?;
-    match lot_of(part.as_slice()) {
-        Some(lot) => Ok(LotId { gtin, lot }),
-        None => Err(WireFault::Field),
-    }
+    Ok(Query::ItemNames(Some(gtin)))
+}
+
+fn expiring(alloc: Global, target: &[u8]) -> Result<Query, WireFault>
+    ensures ok { IfOk result (λ q. query_of_lem Shown.Expiring target.now ≡ Some q) }
+    ensures err { IfErr result (λ e. e ≢ WireFault.Memory → (e ≡ WireFault.Field)
+        × (query_of_lem Shown.Expiring target.now ≡ None)) }
+{
+    let day = day_in(alloc, target)?;
+    Ok(Query::Expiring(day, None))
+}
+
+fn expiring_behind(alloc: Global, target: &[u8]) -> Result<Query, WireFault>
+    ensures ok { IfOk result (λ q. query_of_lem Shown.ExpiringBehind target.now ≡ Some q) }
+    ensures err { IfErr result (λ e. e ≢ WireFault.Memory → (e ≡ WireFault.Field)
+        × (query_of_lem Shown.ExpiringBehind target.now ≡ None)) }
+{
+    let day = day_in(alloc, target)?;
+    let lot = lot_behind(alloc, target)?;
+    Ok(Query::Expiring(day, Some(lot)))
 }
 
 /// What a path shows: `W04` where a value in it breaks its rule. The only other fault is `W90`, for
@@ -113,6 +197,13 @@ pub fn query_of(alloc: Global, shown: Shown, target: &[u8]) -> Result<Query, Wir
         × (query_of_lem shown target.now ≡ None)) }
 {
     match shown {
+        Shown::Books => Ok(Query::Books),
+        Shown::OpenOrders => Ok(Query::OpenOrders(None)),
+        Shown::OpenOrdersBehind => open_orders_behind(alloc, target),
+        Shown::ItemNames => Ok(Query::ItemNames(None)),
+        Shown::ItemNamesBehind => item_names_behind(alloc, target),
+        Shown::Expiring => expiring(alloc, target),
+        Shown::ExpiringBehind => expiring_behind(alloc, target),
         Shown::Stock => gtin_in(alloc, target).map(Query::Stock),
         Shown::Order => order_in(alloc, target).map(Query::Order),
         Shown::PickList => order_in(alloc, target).map(Query::PickList),

@@ -34,6 +34,13 @@ pub enum Posted {
 /// What is shown.
 #[derive(Clone, Copy)]
 pub enum Shown {
+    Books,
+    OpenOrders,
+    OpenOrdersBehind,
+    ItemNames,
+    ItemNamesBehind,
+    Expiring,
+    ExpiringBehind,
     Stock,
     Order,
     PickList,
@@ -50,7 +57,7 @@ pub enum Route {
 }
 
 /// The routes that are served.
-pub static ROUTES: [(&str, Route); 24] = [
+pub static ROUTES: [(&str, Route); 31] = [
     ("/items", Route::Post(Posted::Items)),
     ("/bins", Route::Post(Posted::Bins)),
     ("/receipts", Route::Post(Posted::Receipts)),
@@ -75,6 +82,16 @@ pub static ROUTES: [(&str, Route); 24] = [
     ("/shortages/{gtin}", Route::Get(Shown::Shortages)),
     ("/cards/{gtin}/{lot}", Route::Get(Shown::Card)),
     ("/notices/{gtin}/{lot}", Route::Get(Shown::Notice)),
+    ("/books", Route::Get(Shown::Books)),
+    ("/openorders", Route::Get(Shown::OpenOrders)),
+    ("/openorders/{order}", Route::Get(Shown::OpenOrdersBehind)),
+    ("/itemnames", Route::Get(Shown::ItemNames)),
+    ("/itemnames/{gtin}", Route::Get(Shown::ItemNamesBehind)),
+    ("/expiring/{day}", Route::Get(Shown::Expiring)),
+    (
+        "/expiring/{day}/{gtin}/{lot}",
+        Route::Get(Shown::ExpiringBehind),
+    ),
 ];
 
 // Adds a route. Nothing is added where there is no memory, or where it conflicts with another.

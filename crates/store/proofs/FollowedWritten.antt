@@ -17,11 +17,12 @@ use Rattle.commands.specs.declared.rows.MetaRow.{MetaRow}
 use Rattle.commands.specs.declared.rows.OrderRow.{OrderRow}
 use Rattle.commands.specs.declared.rows.RecallRow.{RecallRow}
 use Rattle.commands.specs.declared.rows.RepeatRow.{RepeatRow}
+use Rattle.commands.specs.declared.rows.ReservedRow.{ReservedRow}
 use Rattle.commands.specs.declared.rows.StagedRow.{StagedRow}
 use Rattle.commands.specs.declared.rows.StockRow.{StockRow}
 use Rattle.commands.specs.declared.rows.UrgentRow.{UrgentRow}
 use Rattle.table_words.specs.Found.{AreRows}
-use Rattle.table_words.specs.Typed.{same_lot, lot_key, same_order, order_key, same_urgent, urgent_key, LineKey, same_line, line_key, StockKey, same_stock, stock_key, StagedKey, same_staged, staged_key, with_item, with_least, with_bin, with_lot, with_recall, with_stock, without_stock, with_order, with_urgent, with_line, with_staged, without_staged, with_reserved, without_reserved, with_shipment, with_shipline, with_card, with_repeat}
+use Rattle.table_words.specs.Typed.{same_lot, lot_key, same_order, order_key, same_urgent, urgent_key, LineKey, same_line, line_key, StockKey, same_stock, stock_key, StagedKey, same_staged, staged_key, ReservedKey, same_reserved, reserved_key, with_item, with_least, with_bin, with_lot, with_recall, with_stock, without_stock, with_order, with_urgent, with_line, with_staged, without_staged, with_reserved, without_reserved, with_shipment, with_shipline, with_card, with_repeat}
 use Rattle.table_words.proofs.KeyLemmas.{IsSame}
 use Rattle.row_rules.specs.declared.slice.Change.{Change}
 use Rattle.slice_lists.specs.LineOrder.{turned_line, line_key_cmp, lines_told}
@@ -34,12 +35,13 @@ use Rattle.goods_tables.specs.Stock.{stock_laws}
 use Rattle.order_tables.specs.Lines.{lines_laws}
 use Rattle.order_tables.specs.Orders.{orders_laws}
 use Rattle.order_tables.specs.Urgents.{urgents_laws}
+use Rattle.order_tables.specs.Reserved.{reserved_laws}
 use Rattle.order_tables.specs.Staged.{AreStagedOfItem, staged_laws}
 use Rattle.changes.specs.Written.{names_written, goods_written, lines_written, stage_emptied, orders_written, change_written}
 use Rattle.known_rows.specs.KnownRows.{RowMap, ChangesBy, Remembers, with_put}
 use Rattle.known_rows.proofs.Learned.{remembers_none}
 use Rattle.known_reads.proofs.KnownWritten.{known_as, known_put, known_dropped}
-use Rattle.slices.specs.Following.{KnowsLots, KnowsOrders, KnowsUrgents, KnowsLines, KnowsLinesAt, KnowsStock, KnowsStaged, KnowsMeta, KnowsFollowed, LotsPut, OrdersPut, UrgentsPut, LinesPut, LinesAtPut, StockFollows, StagedFollows, Follows}
+use Rattle.slices.specs.Following.{KnowsLots, KnowsLotsOf, KnowsOrders, KnowsUrgents, KnowsLines, KnowsLinesAt, KnowsStock, KnowsStaged, KnowsReserved, KnowsMeta, KnowsFollowed, LotsPut, LotsOfPut, OrdersPut, UrgentsPut, LinesPut, LinesAtPut, StockFollows, StagedFollows, ReservedFollows, Follows}
 use Rattle.slices.specs.declared.followed.Followed.{Followed}
 use Rattle.store.proofs.LinesWritten.{rows_spare, stage_spares, Ordered, goods_spare, change_spares}
 
@@ -72,6 +74,9 @@ stock_at t k = t.stock k.0 k.1
 
 abbrev staged_at : Tables → StagedKey → Option StagedRow
 staged_at t k = t.staged k.0 k.1
+
+abbrev reserved_at : Tables → ReservedKey → Option ReservedRow
+reserved_at t k = t.reserved k.0 k.1
 
 module _ (c : Change) (row : RepeatRow) (t : Tables) where
   abbrev with_items : Tables
@@ -163,6 +168,9 @@ module _ (c : Change) (row : RepeatRow) (t : Tables) where
   lots_followed : (old new : RowMap KeyOfLot LotRow) → LotsPut c.put old new → KnowsLots t old → KnowsLots left new
   lots_followed = put_through lot_key_cmp turned_lot same_lot lots_told same_lot lot_key lots_laws.itself lots_laws.one_key (λ u. u.lot) same_lot (λ r. r.lot) (λ by r. refl) with_lot (λ r u. refl) c.put.lots t named left lots_before lots_left
 
+  lots_of_followed : (old new : RowMap (List ℕ) LotRow) → LotsOfPut c.put old new → KnowsLotsOf t old → KnowsLotsOf left new
+  lots_of_followed = put_through (slice_cmp nat_cmp) reverse same_text names_told same_lot lot_key lots_laws.itself lots_laws.one_key (λ u. u.lot) (λ g k. same_text g k.gtin) (λ r. r.lot.gtin) (λ by r. refl) with_lot (λ r u. refl) c.put.lots t named left lots_before lots_left
+
   orders_followed : (old new : RowMap (List ℕ) OrderRow) → OrdersPut c.put old new → KnowsOrders t old → KnowsOrders left new
   orders_followed = put_through (slice_cmp nat_cmp) reverse same_text names_told same_order order_key orders_laws.itself orders_laws.one_key (λ u. u.order) same_text (λ r. r.order) (λ by r. refl) with_order (λ r u. refl) c.put.orders t stocked left orders_before orders_left
 
@@ -216,14 +224,33 @@ module _ (c : Change) (row : RepeatRow) (t : Tables) where
       (known_dropped (slice_cmp nat_cmp) reverse same_text names_told same_staged staged_key staged_laws.itself staged_laws.one_key staged_at (λ g k. same_text g k.1.gtin) (λ r. r.lot.gtin) (λ by r. refl) (λ r. without_staged r.order r.lot) (λ r u. refl) c.dropped.staged emptied old mid drops
       (known_as (slice_cmp nat_cmp) reverse same_text names_told same_staged staged_key staged_laws.itself staged_laws.one_key staged_at (λ g k. same_text g k.1.gtin) (λ r. r.lot.gtin) (λ by r. refl) t emptied (sym (staged_before is)) old known)))
 
+  reserved_before : reserved_at staged ≡ reserved_at t
+  reserved_before =
+      rows_spare reserved_at with_staged (λ r u. refl) c.put.staged unstaged ∙ rows_spare reserved_at (λ r. without_staged r.order r.lot) (λ r u. refl) c.dropped.staged emptied ∙ stage_spares reserved_at (λ o u. refl) c.dropped.stage with_lines
+      ∙ rows_spare reserved_at with_line (λ r u. refl) c.put.lines with_urgents ∙ rows_spare reserved_at with_urgent (λ r u. refl) c.put.urgents with_orders ∙ rows_spare reserved_at with_order (λ r u. refl) c.put.orders stocked
+      ∙ rows_spare reserved_at with_stock (λ r u. refl) c.put.stock unstocked ∙ rows_spare reserved_at (λ r. without_stock r.lot r.bin) (λ r u. refl) c.dropped.stock recalled ∙ rows_spare reserved_at with_recall (λ r u. refl) c.put.recalls lotted
+      ∙ rows_spare reserved_at with_lot (λ r u. refl) c.put.lots named ∙ rows_spare reserved_at with_bin (λ r u. refl) c.put.bins asked ∙ rows_spare reserved_at with_least (λ r u. refl) c.put.least with_items ∙ rows_spare reserved_at with_item (λ r u. refl) c.put.items t
+
+  reserved_left : reserved_at left ≡ reserved_at with_all_orders
+  reserved_left = rows_spare reserved_at with_card (λ r u. refl) c.put.cards shipped_lines ∙ rows_spare reserved_at with_shipline (λ r u. refl) c.put.shiplines shipped ∙ rows_spare reserved_at with_shipment (λ r u. refl) c.put.shipments with_all_orders
+
+  reserved_followed : (old new : RowMap (List ℕ) ReservedRow) → ReservedFollows c.put c.dropped old new → KnowsReserved t old → KnowsReserved left new
+  reserved_followed old new (mid, drops, puts) known =
+      known_as (slice_cmp nat_cmp) reverse same_text names_told same_reserved reserved_key reserved_laws.itself reserved_laws.one_key reserved_at (λ g k. same_text g k.1.gtin) (λ r. r.lot.gtin) (λ by r. refl) with_all_orders left (sym reserved_left) new
+      (known_put (slice_cmp nat_cmp) reverse same_text names_told same_reserved reserved_key reserved_laws.itself reserved_laws.one_key reserved_at (λ g k. same_text g k.1.gtin) (λ r. r.lot.gtin) (λ by r. refl) with_reserved (λ r u. refl) c.put.reserved unreserved mid new puts
+      (known_dropped (slice_cmp nat_cmp) reverse same_text names_told same_reserved reserved_key reserved_laws.itself reserved_laws.one_key reserved_at (λ g k. same_text g k.1.gtin) (λ r. r.lot.gtin) (λ by r. refl) (λ r. without_reserved r.order r.lot) (λ r u. refl) c.dropped.reserved staged old mid drops
+      (known_as (slice_cmp nat_cmp) reverse same_text names_told same_reserved reserved_key reserved_laws.itself reserved_laws.one_key reserved_at (λ g k. same_text g k.1.gtin) (λ r. r.lot.gtin) (λ by r. refl) t staged (sym reserved_before) old known)))
+
   pub followed_written : (old new : Followed) → Follows c old new → KnowsFollowed t old → KnowsFollowed left new
   followed_written old new follows known = record {
     lots = lots_followed old.lots.rows new.lots.rows follows.lots known.lots;
+    lots_of = lots_of_followed old.lots_of.rows new.lots_of.rows follows.lots_of known.lots_of;
     orders = orders_followed old.orders.rows new.orders.rows follows.orders known.orders;
     urgents = urgents_followed old.urgents.rows new.urgents.rows follows.urgents known.urgents;
     lines = lines_followed old.lines.rows new.lines.rows follows.lines known.lines;
     lines_at = lines_at_followed old.lines_at.rows new.lines_at.rows follows.lines_at known.lines_at;
     stock = stock_followed old.stock.rows new.stock.rows follows.stock known.stock;
     staged = staged_followed c.dropped.stage refl old.staged.rows new.staged.rows follows.staged known.staged;
+    reserved = reserved_followed old.reserved.rows new.reserved.rows follows.reserved known.reserved;
     meta = subst (λ (x : Option MetaRow). KnowsMeta left x) (sym follows.meta) refl;
   }

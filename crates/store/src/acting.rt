@@ -205,7 +205,7 @@ fn accept<S: Alter>(
     ensures survives { Survives (state S.Store tx.old.conn.now) (state S.Store tx.new.conn.now) (λ _. ⊥) }
 {
     let spelled = spell(alloc, command)?;
-    write_change(tx, change)?;
+    write_change(alloc, tx, change)?;
     keep_act(tx, key, Listed::from_vec(spelled), change)?;
     Ok(Reply {
         text: change.text,

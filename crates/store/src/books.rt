@@ -13,6 +13,7 @@ ghost use Rattle.machine.specs.Standing.{today, RETURNS};
 ghost use Rattle.store.specs.Acting.{IsActed};
 ghost use Rattle.store.specs.Filing.{rows_of, AreKeysOf, IsFiled};
 ghost use Rattle.machine.specs.Queries.{order_shown, short_shown, stock_shown};
+ghost use Rattle.overviews.specs.Shown.{books_shown, open_orders_shown, item_names_shown, expiring_shown};
 ghost use Rattle.queries.specs.ShownActs.{acts_shown};
 ghost use Rattle.machine.specs.Views.{bins_of_lot, card_of_lot, shipments_of_lot};
 ghost use Rattle.store.specs.Heads.{card_head_shown, notice_head_shown};
@@ -37,7 +38,11 @@ use commands::{
     ShippedUnits, ShortView, Sink, StockView,
 };
 use label::{BusinessDay, Day};
-use queries::{ActsQuery, CardHeadQuery, NoticeHeadQuery, OrderQuery, ShortQuery, StockQuery};
+use overviews::{BooksView, ExpiringView, ItemNamesView, OpenOrdersView};
+use queries::{
+    ActsQuery, BooksQuery, CardHeadQuery, ExpiringQuery, ItemNamesQuery, NoticeHeadQuery,
+    OpenQuery, OrderQuery, ShortQuery, StockQuery,
+};
 use slices::Known;
 use sqlite::{Alter, Connection};
 use std::alloc::Global;
@@ -356,6 +361,93 @@ impl<S: Alter> Books<S> {
         ensures survives { Survives (state S.Store self.old.conn) (state S.Store self.new.conn) (λ _. ⊥) }
     {
         let query = ShortQuery { gtin: *gtin };
+        show(
+            self.alloc,
+            &mut self.conn,
+            self.day,
+            &mut self.known,
+            &query,
+        )
+    }
+
+    /// Shows the number of the last act and the business day. Nothing is refused, and nothing is changed; `Store` where memory
+    /// or the disk did not suffice, and `Foreign` never on books of a history.
+    pub fn summary(&mut self) -> Result<BooksView, Fault>
+        ensures clean { IsClean S.Store self.new → IsClean S.Store self.old }
+        ensures shown { IsClean S.Store self.new → (first : ℤ) (acts : List Act) → IsHistory first acts → HoldsBooks S.Store first acts self.old
+            → IsShown S.Store first acts (books_shown first acts) result self.new }
+        ensures as_before { IsClean S.Store self.new → AreAsBefore S.Store self.old self.new }
+        ensures stays { IsClean S.Store self.new → IsSettled (state S.Store self.new.conn) }
+        ensures survives { Survives (state S.Store self.old.conn) (state S.Store self.new.conn) (λ _. ⊥) }
+    {
+        let query = BooksQuery;
+        show(
+            self.alloc,
+            &mut self.conn,
+            self.day,
+            &mut self.known,
+            &query,
+        )
+    }
+
+    /// Shows a page of the open orders in the order of service, from their first or behind an order, each with the units of all
+    /// its lines together. The order has to be known, or it is refused (U04); it may be closed. Nothing is changed; `Store`
+    /// where memory or the disk did not suffice, and `Foreign` never on books of a history.
+    pub fn open_orders(&mut self, behind: Option<Name>) -> Result<OpenOrdersView, Fault>
+        ensures clean { IsClean S.Store self.new → IsClean S.Store self.old }
+        ensures shown { IsClean S.Store self.new → (first : ℤ) (acts : List Act) → IsHistory first acts → HoldsBooks S.Store first acts self.old
+            → IsShown S.Store first acts (open_orders_shown first acts behind) result self.new }
+        ensures as_before { IsClean S.Store self.new → AreAsBefore S.Store self.old self.new }
+        ensures stays { IsClean S.Store self.new → IsSettled (state S.Store self.new.conn) }
+        ensures survives { Survives (state S.Store self.old.conn) (state S.Store self.new.conn) (λ _. ⊥) }
+    {
+        let query = OpenQuery { behind };
+        show(
+            self.alloc,
+            &mut self.conn,
+            self.day,
+            &mut self.known,
+            &query,
+        )
+    }
+
+    /// Shows the items by GTIN, from their first or behind an item, with the days that they ask for: at most 1,000. The item has
+    /// to be known, or it is refused (U01). Nothing is changed; `Store` where memory or the disk did not suffice, and `Foreign`
+    /// never on books of a history.
+    pub fn item_names(&mut self, behind: Option<Gtin>) -> Result<ItemNamesView, Fault>
+        ensures clean { IsClean S.Store self.new → IsClean S.Store self.old }
+        ensures shown { IsClean S.Store self.new → (first : ℤ) (acts : List Act) → IsHistory first acts → HoldsBooks S.Store first acts self.old
+            → IsShown S.Store first acts (item_names_shown acts behind) result self.new }
+        ensures as_before { IsClean S.Store self.new → AreAsBefore S.Store self.old self.new }
+        ensures stays { IsClean S.Store self.new → IsSettled (state S.Store self.new.conn) }
+        ensures survives { Survives (state S.Store self.old.conn) (state S.Store self.new.conn) (λ _. ⊥) }
+    {
+        let query = ItemNamesQuery { behind };
+        show(
+            self.alloc,
+            &mut self.conn,
+            self.day,
+            &mut self.known,
+            &query,
+        )
+    }
+
+    /// Shows a page of the lots with units in the house that expire on the day or before, by expiry and first receipt, from
+    /// their first or behind a lot. The lot has to be known, or it is refused (U03); it may have no units. Nothing is changed;
+    /// `Store` where memory or the disk did not suffice, and `Foreign` never on books of a history.
+    pub fn expiring(
+        &mut self,
+        day: BusinessDay,
+        behind: Option<LotId>,
+    ) -> Result<ExpiringView, Fault>
+        ensures clean { IsClean S.Store self.new → IsClean S.Store self.old }
+        ensures shown { IsClean S.Store self.new → (first : ℤ) (acts : List Act) → IsHistory first acts → HoldsBooks S.Store first acts self.old
+            → IsShown S.Store first acts (expiring_shown first acts day behind) result self.new }
+        ensures as_before { IsClean S.Store self.new → AreAsBefore S.Store self.old self.new }
+        ensures stays { IsClean S.Store self.new → IsSettled (state S.Store self.new.conn) }
+        ensures survives { Survives (state S.Store self.old.conn) (state S.Store self.new.conn) (λ _. ⊥) }
+    {
+        let query = ExpiringQuery { day, behind };
         show(
             self.alloc,
             &mut self.conn,

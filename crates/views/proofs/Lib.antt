@@ -17,3 +17,14 @@ pub mod Service
 pub mod ShortsShown
 pub mod ShortGiven
 pub mod OrderGiven
+pub mod FirstInOrder
+mod OpenGiven
+pub mod OpenPage
+mod OpenUnits
+pub mod OpenShown
+pub mod OpenOnce
+mod ExpiringGiven
+pub mod ExpiringPage
+mod ExpiringShown
+pub mod NamesPage
+pub mod NamesShown

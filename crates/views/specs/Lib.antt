@@ -7,3 +7,9 @@ pub mod SeenShort
 pub mod ShownShort
 pub mod GivenShort
 pub mod GivenOrder
+pub mod GivenOpen
+pub mod ShownOpen
+pub mod GivenExpiring
+pub mod ShownExpiring
+pub mod GivenNames
+pub mod ShownNames

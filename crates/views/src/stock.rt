@@ -67,8 +67,12 @@ pub struct LotsShown<'a> {
     pub staged: RowsByText<'a, StagedRow>,
 }
 
-// The rows, to be found for so many lots.
-fn lots_shown<'a>(alloc: Global, rows: &'a Rows, lots: usize) -> Result<LotsShown<'a>, AllocError>
+/// The rows, to be found for so many lots.
+pub fn lots_shown<'a>(
+    alloc: Global,
+    rows: &'a Rows,
+    lots: usize,
+) -> Result<LotsShown<'a>, AllocError>
     ensures { IfOk result (λ m. AreOfLots m rows.now) }
 {
     let in_bins = by_text::<Lot, StockRow>(alloc, rows.stock.as_slice(), lots)?;
@@ -100,7 +104,8 @@ fn views_found(
     Ok(views)
 }
 
-fn lot_view(
+/// What is shown of the stock of a lot.
+pub fn lot_view(
     alloc: Global,
     day: BusinessDay,
     least: LeastDays,

@@ -1,6 +1,13 @@
 -- Some answers.
-use Rattle.std.proofs.Common.{◌≡◌, codes, refl, ◌++◌, Some, None}
+use Rattle.std.proofs.Common.{◌≡◌, codes, refl, ◌++◌, ◌∷◌, [], false, pos, Some, None}
+use Rattle.json.specs.Print.{escape_byte}
+use Rattle.serde_json.specs.Written.{compact_text}
+use Rattle.commands.specs.declared.rows.OrderClass.TheVariants.{Normal}
+use Rattle.overviews.specs.declared.lists.OpenOrder.{OpenOrder}
+use Rattle.overviews.specs.declared.lists.NamedItem.{NamedItem}
+use Rattle.wire.specs.Lists.{books_data, open_orders_data, item_names_data}
 use Rattle.std.specs.Fmt.{digits}
+use Rattle.label.specs.Days.{date_of, date_after, date_in_year}
 use Rattle.commands.specs.Replies.{reply_text}
 use Rattle.commands.specs.declared.replies.ReplyField.TheVariants.{Returned}
 use Rattle.requests.specs.declared.method.Method.TheVariants.{Post}
@@ -22,3 +29,27 @@ the_other_method_is_named = refl
 pub a_row_of_a_file : cause_row_text (codes "G02") 2 ≡ codes "{\"cause\":\"G02\",\"code\":\"W05\",\"row\":2}"
 unfolding digits
 a_row_of_a_file = refl
+
+abbrev corner_shop : OpenOrder
+corner_shop = record { class = Normal; customer = codes "Corner Shop"; order = codes "S-1"; ordered = 12; reserved = 12; shipped = 0; short = 0; staged = 0 }
+
+abbrev harbour_cafe : OpenOrder
+harbour_cafe = record { class = Normal; customer = codes "Harbour Cafe"; order = codes "S-2"; ordered = 12; reserved = 12; shipped = 0; short = 0; staged = 0 }
+
+pub two_orders_are_open : compact_text (open_orders_data (record { act = 10; orders = corner_shop ∷ harbour_cafe ∷ []; more = false }))
+    ≡ codes "{\"act\":10,\"more\":false,\"orders\":[{\"class\":\"NORMAL\",\"customer\":\"Corner Shop\",\"order\":\"S-1\",\"ordered\":12,\"reserved\":12,\"shipped\":0,\"short\":0,\"staged\":0},{\"class\":\"NORMAL\",\"customer\":\"Harbour Cafe\",\"order\":\"S-2\",\"ordered\":12,\"reserved\":12,\"shipped\":0,\"short\":0,\"staged\":0}]}"
+unfolding digits escape_byte
+two_orders_are_open = refl
+
+abbrev oat_drink : NamedItem
+oat_drink = record { item = record { gtin = codes "09506000134352"; name = codes "Oat drink" }; least = 0 }
+
+pub an_item_by_its_name : compact_text (item_names_data (record { act = 10; items = oat_drink ∷ []; more = false }))
+    ≡ codes "{\"act\":10,\"items\":[{\"gtin\":\"09506000134352\",\"least\":0,\"name\":\"Oat drink\"}],\"more\":false}"
+unfolding digits escape_byte
+an_item_by_its_name = refl
+
+-- 20577 days after the first of January 1970 is the 4th of May 2026
+pub the_books : compact_text (books_data (record { act = 10; day = pos 20577 })) ≡ codes "{\"act\":10,\"day\":\"2026-05-04\",\"schema\":4}"
+unfolding digits escape_byte date_of date_after date_in_year
+the_books = refl

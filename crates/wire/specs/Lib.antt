@@ -1,6 +1,7 @@
 pub mod Answers
 pub mod Shorts
 pub mod Views
+pub mod Lists
 pub mod Laws
 pub mod ShortAnswers
 pub mod Serving

@@ -1,10 +1,15 @@
 ghost use Rattle.std.specs.Prelude.{◌≡◌, ◌+◌, ◌≤◌, ◌++◌, length, codes, decimal, IfOk, Some, None};
 ghost use Rattle.wire.specs.Answers.{phrase as phrase_lem, CRLF, json_type, allow_line, head_text, answer_text, answer_bytes};
 
+use crate::books::books_json;
+use crate::expiring::expiring_json;
+use crate::item_names::item_names_json;
+use crate::open_orders::open_orders_json;
 use crate::order::order_json;
 use crate::stock::stock_json;
 use commands::{Buffer, Listed, OrderView, Short, StockView};
 use http::StatusCode;
+use overviews::{BooksView, ExpiringView, ItemNamesView, OpenOrdersView};
 use requests::Method;
 use std::alloc::{AllocError, Global};
 
@@ -106,6 +111,14 @@ fn with_head(alloc: Global, kind: &[u8], body: &[u8]) -> Result<Vec<u8>, AllocEr
 /// What a GET is answered.
 #[derive(Drop)]
 pub enum Answer {
+    /// The books, as JSON.
+    Books(BooksView),
+    /// Open orders, as JSON.
+    OpenOrders(OpenOrdersView),
+    /// Items, as JSON.
+    ItemNames(ItemNamesView),
+    /// Lots that expire, as JSON.
+    Expiring(ExpiringView),
     /// The stock of an item, as JSON.
     Stock(StockView),
     /// An order, as JSON.
@@ -119,6 +132,22 @@ pub fn write_answer(alloc: Global, answer: &Answer) -> Result<Vec<u8>, AllocErro
     ensures { IfOk result (λ b. b.items ≡ answer_bytes answer.now) }
 {
     match answer {
+        Answer::Books(shown) => {
+            let body = books_json(alloc, shown)?;
+            with_head(alloc, b"application/json", body.as_slice())
+        }
+        Answer::OpenOrders(shown) => {
+            let body = open_orders_json(alloc, shown)?;
+            with_head(alloc, b"application/json", body.as_slice())
+        }
+        Answer::ItemNames(shown) => {
+            let body = item_names_json(alloc, shown)?;
+            with_head(alloc, b"application/json", body.as_slice())
+        }
+        Answer::Expiring(shown) => {
+            let body = expiring_json(alloc, shown)?;
+            with_head(alloc, b"application/json", body.as_slice())
+        }
         Answer::Stock(shown) => {
             let body = stock_json(alloc, shown)?;
             with_head(alloc, b"application/json", body.as_slice())

@@ -2,9 +2,13 @@
 #![tactic(auto)]
 
 mod answer;
+mod books;
+mod expiring;
+mod item_names;
 pub mod laws;
 pub mod logging;
 mod members;
+mod open_orders;
 mod order;
 pub mod serving;
 pub mod short;

@@ -1,7 +1,7 @@
 //! The members of a JSON object, token by token. No value is made.
 
 ghost use Rattle.std.specs.Prelude.{◌∷◌, ◌++◌, [], decimal, flat_map, map, OnOk};
-ghost use Rattle.json.specs.Token.{key, string, number, end_array};
+ghost use Rattle.json.specs.Token.{key, string, number, boolean, end_array};
 ghost use Rattle.serde_json.specs.Data.{array};
 ghost use Rattle.serde_json.specs.View.{items_of};
 ghost use Rattle.wire.specs.Tokens.{Adds, data_tokens};
@@ -23,6 +23,14 @@ pub fn put_count(out: &mut Writer, name: &str, count: u64) -> Result<(), AllocEr
 {
     out.key(name)?;
     out.u64(count)
+}
+
+/// A truth value under a name.
+pub fn put_flag(out: &mut Writer, name: &str, flag: bool) -> Result<(), AllocError>
+    ensures { OnOk result (Adds out.old out.new (key name.now ∷ boolean flag ∷ [])) }
+{
+    out.key(name)?;
+    out.boolean(flag)
 }
 
 /// What stands in a list.

@@ -1,0 +1,13 @@
+use Rattle.std.proofs.Common.{◌≡◌, true}
+use Rattle.sqlite.specs.Held.{state}
+use Rattle.keyed_rows.proofs.Laws.{typed_rows}
+use Rattle.goods_tables.specs.Stock.{stock, stock_laws}
+use Rattle.known_reads.proofs.ReadSteps.{read_of, never_foreign}
+use Rattle.queries.proofs.shown_expiring.read_all_stock.Goals as goal
+
+pub returns-clause-read : goal.returns-clause-read
+returns-clause-read g c =
+    let old = state g.S.Store c.args.tx.now.conn.now in
+    let one = c.all_rows.ensures.finds in
+    read_of _ old (state g.S.Store c.all_rows.new.tx.conn.now) c.all_rows.result one.survives one.same one.kept one.rows
+    (λ clean ready typed. never_foreign (λ r. stock.is r ≡ true) (old.now.trees stock.layout.tree) c.all_rows.result (typed_rows stock stock_laws old.now.trees typed) (one.foreign clean ready))

@@ -1,0 +1,28 @@
+-- The rows by which items are shown.
+use Rattle.std.specs.Prelude.{ℕ, Bool, true, List, take, Option}
+use Rattle.std.specs.List.{list_any}
+use Rattle.values.specs.Values.{same_text}
+use Rattle.commands.specs.declared.command.NewItem.{NewItem}
+use Rattle.commands.specs.declared.rows.ItemRow.{ItemRow}
+use Rattle.commands.specs.declared.rows.LeastRow.{LeastRow}
+use Rattle.machine.specs.Acts.{Act}
+use Rattle.machine.specs.Tables.{item_row, least_row}
+use Rattle.machine.specs.KeyedRows.{AreRows}
+use Rattle.overviews.specs.declared.lists.TheConstants.{NAMES_MAX}
+use Rattle.overviews.specs.Pages.{items_behind}
+
+-- the row of an item
+abbrev pub row_of_item : NewItem → ItemRow
+row_of_item i = record { gtin = i.gtin; name = i.name }
+
+-- all items
+abbrev pub AreItems : List Act → List ItemRow → Type 0
+AreItems acts rows = AreRows same_text (λ r. r.gtin) (λ g. true) (λ g. true) (item_row acts) rows
+
+-- the item is in the answer
+abbrev pub is_named : List Act → Option NewItem → List ℕ → Bool
+is_named acts last g = list_any (λ i. same_text g i.gtin) (take NAMES_MAX (items_behind acts last))
+
+-- what the items of the answer ask for; other rows of the table may be there too
+abbrev pub AreAsked : List Act → Option NewItem → List LeastRow → Type 0
+AreAsked acts last rows = AreRows same_text (λ r. r.gtin) (is_named acts last) (λ g. true) (least_row acts) rows
