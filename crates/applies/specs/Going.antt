@@ -7,6 +7,8 @@ use Rattle.machine.specs.Acts.{Act, next_number}
 use Rattle.machine.specs.Once.{IsHistory, IsSoundRequest, outcome}
 use Rattle.histories.specs.Newer.{act_line, newer_text}
 use Rattle.act_lines.specs.Reading.{IsPart, IsNumbered, IsPiece}
+use Rattle.act_lines.specs.declared.reading.ReadFault.{ReadFault}
+use Rattle.act_lines.specs.declared.reading.ReadFault.TheVariants as read
 use Rattle.replays.specs.Replaying.{cause}
 use Rattle.store.specs.Connected.{Connected}
 use Rattle.store.specs.Books.{AreBooks, HoldsBooks}
@@ -88,6 +90,11 @@ IsOfNoLine (Differs n) = ⊥
 IsOfNoLine (Lacks n) = ⊥
 IsOfNoLine (Line n) = ⊥
 IsOfNoLine (Refused n why) = ⊥
+
+-- how it is told that no line could be read
+abbrev pub unread : ReadFault → NotApplied
+unread read.Memory = Store
+unread read.Input = Input
 
 -- All lines before the next one were done, and it is not, for this fault. Of a line that is longer than any act's the first
 -- 8,192 bytes are looked at.

@@ -46,9 +46,10 @@ impl From<AllocError> for NotApplied {
 }
 
 impl From<ReadFault> for NotApplied {
-    ghost use Rattle.applies.specs.Going.{IsOfNoLine};
+    ghost use Rattle.std.specs.Prelude.{◌≡◌};
+    ghost use Rattle.applies.specs.Going.{IsOfNoLine, unread};
 
-    ghost from_gives = { λ _ fault. IsOfNoLine fault };
+    ghost from_gives = { λ why fault. (fault ≡ unread why) × IsOfNoLine fault };
 
     fn from(fault: ReadFault) -> NotApplied {
         match fault {

@@ -14,6 +14,7 @@ use Rattle.store.specs.Connected.{Connected}
 use Rattle.store.specs.Books.{AreBooks, HoldsBooks, IsClean, LeavesOnly, MayLeave}
 use Rattle.applies.specs.Going.{OfText}
 use Rattle.applies.specs.Applying.{IsApplied, LeavesOneOf}
+use Rattle.applies.specs.Taken.{IsTaken}
 use Rattle.applies.specs.declared.applied.Applied.{Applied}
 use Rattle.applies.specs.declared.applied.NotApplied.{NotApplied}
 use Rattle.command_line.specs.declared.fault.Fault.{Fault}
@@ -34,10 +35,15 @@ of_named : (known from : Option (List ℕ)) (Is : List ℕ → Type 0) → IfSom
 of_named None from Is has h = (h.0, tt, h.2)
 of_named (Some t) from Is has h = subst (λ f. OfText f Is) has h
 
+if_named : (known from : Option (List ℕ)) (Is : List ℕ → Type 0) → IfSome known (λ t. from ≡ Some t) → IfSome from Is → IfSome known Is
+if_named None from Is has h = tt
+if_named (Some t) from Is has h = subst (λ f. IfSome f Is) has h
+
 module _ {S : Type 0} (g : Ghosts S) (first : ℤ) (acts : List Act) where
   went_too : (known from : Option (List ℕ)) (end : Result Applied NotApplied) (books : Connected S) → IfSome known (λ t. from ≡ Some t) → Went g first acts from end books → Went g first acts known end books
   went_too known from end books has w = record {
     applied = of_named known from (λ text. IsApplied g first acts text end books) has w.applied;
+    every = if_named known from (λ text. IsTaken g first acts text end books) has w.every;
     leaves = λ trees left. left_too trees (w.leaves trees left);
   }
     where
@@ -53,9 +59,10 @@ module _ {S : Type 0} (g : Ghosts S) (first : ℤ) (acts : List Act) where
   -- the lines of a reader that has read nothing
   pub went_on : (read from : Option (List ℕ)) (was books : Connected S) (end : Result Applied NotApplied) → read ≡ from → IsClean g books → IsHistory first acts → HoldsBooks g first acts was
       → LeavesOnly first acts (state g was.conn) → OfText read (λ text. IsApplied g first acts text end books)
+      → IfSome read (λ text. IsTaken g first acts text end books)
       → Survives (state g was.conn) (state g books.conn) (λ trees. (f : ℤ) (a : List Act) → IsHistory f a → HoldsBooks g f a was → OfText read (λ text. LeavesOneOf f a text trees)) → Went g first acts from end books
-  went_on read from was books end same clean history holds only applied survives =
-      subst (λ r. Went g first acts r end books) same (record { applied = applied; leaves = λ trees left. by trees (survives.crash clean trees left) })
+  went_on read from was books end same clean history holds only applied every survives =
+      subst (λ r. Went g first acts r end books) same (record { applied = applied; every = every; leaves = λ trees left. by trees (survives.crash clean trees left) })
     where
       by : (trees : Trees) → MayLeave g was trees ⊎ ((f : ℤ) (a : List Act) → IsHistory f a → HoldsBooks g f a was → OfText read (λ text. LeavesOneOf f a text trees))
           → AreBooks first acts trees ⊎ OfText read (λ text. LeavesOneOf first acts text trees)

@@ -1,2 +1,3 @@
 mod Listening
 mod ActsFound
+mod Fresh

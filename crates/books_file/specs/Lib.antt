@@ -1,2 +1,3 @@
 pub mod FirstPage
 pub mod Lines
+pub mod Program

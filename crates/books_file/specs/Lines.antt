@@ -1,5 +1,6 @@
 -- What a line does with the books in a file.
 use Rattle.std.specs.Prelude.{◌≡◌, ◌⊎◌, ℕ, List, Bool, true, false, Option, Some, None, is_some, Result, Ok, Err, IsErrAnd}
+use Rattle.sqlite_disk.specs.Disk.{Only}
 use Rattle.sqlite_disk.specs.declared.Disk.{Ghosts}
 use Rattle.sqlite_disk.specs.declared.Files.{Files}
 use Rattle.sqlite_wal.specs.Reads.{AreClean}
@@ -9,7 +10,8 @@ use Rattle.sqlite.specs.Recovery.{Image}
 use Rattle.sqlite.specs.declared.FileStore.{FileStore}
 use Rattle.sqlite.specs.State.{HasCleanDisk}
 use Rattle.sqlite.specs.Held.{Held}
-use Rattle.sqlite.specs.Files.{over_files, file_state, IsOpened}
+use Rattle.sqlite.specs.declared.file.Leftover.{Leftover as OpenLeftover}
+use Rattle.sqlite.specs.Files.{over_files, file_state, image_of, IsOpened, LeavesFiles, IsCleanLeft as IsCleanFailed}
 use Rattle.sqlite.specs.Start.{FindsIn}
 use Rattle.sqlite.specs.Closing.{IsCopied}
 use Rattle.books_schema.specs.declared.ready_connection.Leftover.{Leftover}
@@ -19,6 +21,7 @@ use Rattle.command_line.specs.declared.fault.Fault.{Fault}
 use Rattle.command_line.specs.declared.fault.Fault.TheVariants.{Acts, Io, Store}
 use Rattle.command_line.specs.declared.running.Work.{Work}
 use Rattle.command_line.specs.declared.running.Work.TheVariants.{Make, Serve, Import, Card, Notice, History, Audit, Apply}
+use Rattle.kept_lines.specs.Lines.{LosesNoLineIf}
 use Rattle.line_work.specs.Works.{IsServer, IsNotBegun, IsWorked, IsJudged, IsTold, IsKeptBeside}
 use Rattle.books_file.specs.declared.left.FilesLeft.{FilesLeft}
 use Rattle.books_file.specs.declared.left.FilesLeft.TheVariants as left
@@ -43,13 +46,17 @@ names_acts History = false
 names_acts (Audit given) = false
 names_acts (Apply file) = false
 
+-- the file holds these bytes, and a stop leaves nothing else of it
+abbrev pub HoldsOnly : {A : Type 0} → Ghosts A → (held : List ℕ) → A → Type 0
+HoldsOnly h held file = (h.seen file ≡ held) × Only held (h.may_leave file)
+
 -- there is a file, which holds these bytes
 abbrev pub IsThere : {A : Type 0} → Ghosts A → (held : List ℕ) → Option A → Type 0
-IsThere {A} h held found = (file : A) × (found ≡ Some file) × (h.seen file ≡ held)
+IsThere {A} h held found = (file : A) × (found ≡ Some file) × HoldsOnly h held file
 
 -- the file of the acts was opened exactly where one is named, and held these bytes
 abbrev pub IsFoundBeside : {A : Type 0} → Ghosts A → (held : List ℕ) → Work → Option A → Type 0
-IsFoundBeside {A} h held work found = (is_some found ≡ names_acts work) × ((file : A) → found ≡ Some file → h.seen file ≡ held)
+IsFoundBeside {A} h held work found = (is_some found ≡ names_acts work) × ((file : A) → found ≡ Some file → HoldsOnly h held file)
 
 -- how a line ends whose files could not be closed after its work
 abbrev pub closing_fault : Result Unit Fault → Fault
@@ -72,6 +79,8 @@ module _ {D A : Type 0} (g : Ghosts D) (h : Ghosts A) (held : Image) (files : Li
     pub told : HasCleanDisk (file_state closed) → IsTold over_files files before opened work old new end closed
     -- what is done is in the file of the acts before it is told
     pub kept : HasCleanDisk (file_state closed) → IsKeptBeside over_files h files opened work old new log_old log_new end closed before after
+    -- no whole line of that file is lost, whatever the books are
+    pub lines : LosesNoLineIf h before after
 
   -- the file was opened, the work was done, and the file closed
   pub record IsLineDone (end : Result Unit Fault) (left : Files D) : Type 0 where
@@ -106,9 +115,22 @@ module _ {D A : Type 0} (g : Ghosts D) (h : Ghosts A) (held : Image) (files : Li
     pub how : IsLineIdle opened left end ⊎ IsUnclosed opened left end
     pub is_store : IsStoreOf over_files left store
 
+  -- The file and its log were opened, but not as a database: nothing was printed or logged. They held what they held, also after
+  -- whatever stop, and what is left of them is that, or what `LeavesFiles` says of an open that failed.
+  pub record IsLineFailed (end : Result Unit Fault) (left : OpenLeftover D g) : Type 0 where
+    pub ended : end ≡ Err Store
+    pub silent : (new ≡ old) × (log_new ≡ log_old)
+    pub unused : after ≡ before
+    pub opened : Files D
+    pub found : image_of g opened ≡ held
+    pub log_only : Only held.log (g.may_leave opened.log)
+    pub db_only : Only held.db (g.may_leave opened.db)
+    pub leaves : IsCleanFailed left → LeavesFiles opened left
+
   -- how a line ends, and what it leaves of the files of the books
   abbrev pub IsBooksEnd : Result Unit Fault → FilesLeft D g → Type 0
   IsBooksEnd end left.Unopened = IsErrAnd end (IsUnopenedAs work) × (new ≡ old) × (log_new ≡ log_old) × (after ≡ before)
+  IsBooksEnd end (left.Failed kept) = IsLineFailed end kept
   IsBooksEnd end (left.Closed kept) = IsLineDone end kept
   IsBooksEnd end (left.Store store) = IsLineBroken end store
 

@@ -12,6 +12,8 @@ use sqlite_disk::Disk;
 pub enum FilesLeft<D: Disk> {
     /// They were not opened.
     Unopened,
+    /// They were opened, and there were no books to read in them.
+    Failed(sqlite::Leftover<D>),
     /// Both, closed.
     Closed(Files<D>),
     /// The store over them: no work was begun with the books, or the files could not be closed after it.
@@ -44,6 +46,7 @@ impl<D: Disk + Drop> Drop for FilesLeft<D> {
     fn drop(self) {
         match self {
             FilesLeft::Unopened => {}
+            FilesLeft::Failed(_left) => {}
             FilesLeft::Closed(_files) => {}
             FilesLeft::Store(_store) => {}
         }

@@ -6,10 +6,13 @@ mod first_page;
 mod host_files;
 mod left;
 mod line;
+mod path_files;
 mod program;
+mod streams;
 
 pub use first_page::is_ready;
 pub use host_files::{HostFile, HostFiles};
 pub use left::{FilesLeft, LineLeft};
 pub use line::{InFiles, line_worked};
-pub use program::run_words;
+pub use path_files::LockFiles;
+pub use program::{NoWords, run_words, words_given};

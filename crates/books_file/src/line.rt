@@ -138,7 +138,8 @@ fn work_over<S: Start, A: Start, F: FilesAt, W: Write, L: Write>(
             },
             Err((left, fault)) => (FilesLeft::Store(store_of(left)), Err(fault)),
         },
-        Err(_) => (FilesLeft::Unopened, Err(Fault::Store)),
+        Err((_, Some(left))) => (FilesLeft::Failed(left), Err(Fault::Store)),
+        Err((_, None)) => (FilesLeft::Unopened, Err(Fault::Store)),
     }
 }
 

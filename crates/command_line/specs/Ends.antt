@@ -1,12 +1,12 @@
 -- How a line ends: what its words come to, and what the side of the books told of its work and left.
-use Rattle.std.specs.Prelude.{◌≡◌, ◌⊎◌, ⊤, ℕ, ℤ, List, IsTrue, Option, Some, None, option_map, Result, Ok, Err}
+use Rattle.std.specs.Prelude.{◌≡◌, ◌⊎◌, ℕ, ℤ, List, IsTrue, Option, Some, None, option_map, Result, Ok, Err}
 use Rattle.std.specs.Io.KnownBytes.{Keeps}
 use Rattle.clap.specs.declared.error.Error.{Error}
 use Rattle.values.specs.Values.{is_gtin, is_lot_text}
 use Rattle.values.specs.declared.lot.LotId.{LotId}
 use Rattle.label.specs.Days.{is_business_day, parsed_day}
 use Rattle.command_line.specs.Lines.{IsFaultOfWords, IsNoBusinessDay, IsPrinted, IsRefused}
-use Rattle.command_line.specs.Statuses.{IsStatusOf, IsOutputOf}
+use Rattle.command_line.specs.Statuses.{IsStatusOf, IsOutputOf, IsToldOf}
 use Rattle.command_line.specs.declared.fault.Fault.{Fault}
 use Rattle.command_line.specs.declared.fault.Fault.TheVariants.{Value, Io}
 use Rattle.command_line.specs.declared.running.Work.{Work}
@@ -85,11 +85,6 @@ module _ {L : Type 0} (works : Works L) (old new log_old log_new : Option (List 
   -- how the words of a line may end
   abbrev pub IsEnded : Result Unit Fault → Option L → Type 0
   IsEnded end left = (IsNoLine end × IsWithoutBooks works old new log_old log_new left × (new ≡ old)) ⊎ IsLineDone end left
-
--- a line that was done tells nothing
-abbrev pub IsToldOf : Result Unit Fault → Option (List ℕ) → Option (List ℕ) → Type 0
-IsToldOf (Ok done) old new = new ≡ old
-IsToldOf (Err fault) old new = ⊤
 
 -- the words came to such an end, and the status and what is written then are those of it
 abbrev pub IsRun : {L : Type 0} → Works L → (old new log_old log_new : Option (List ℕ)) → ℕ → Option L → Type 0

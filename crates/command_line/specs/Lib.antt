@@ -3,3 +3,4 @@ pub mod Applying
 pub mod Lines
 pub mod Statuses
 pub mod Ends
+pub mod Words

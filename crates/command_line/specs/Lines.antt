@@ -57,6 +57,10 @@ told_place _ = []
 abbrev pub told_line : Fault → List ℕ
 told_line fault = codes "lotd: " ++ told_code fault ++ told_place fault ++ codes "\n"
 
+-- what is told of words that are no text
+abbrev pub no_text_line : List ℕ
+no_text_line = codes "error: a word of the line is not UTF-8\n"
+
 -- the fault of words that are no line: want of memory, or what `clap` says of them
 abbrev pub IsFaultOfWords : Error → Fault → Type 0
 IsFaultOfWords error fault = ((kind_of error ≡ OutOfMemory) × (fault ≡ Store)) ⊎ ((kind_of error ≢ OutOfMemory) × (fault ≡ Usage error))

@@ -1,10 +1,11 @@
--- With which status the program ends, and what it then writes to the output.
+-- With which status the program ends, what it then writes to the output, and what it tells.
 use Rattle.std.specs.Prelude.{◌≡◌, ◌≢◌, ◌⊎◌, ℕ, List, Option, Result, Ok, Err}
 use Rattle.std.specs.Io.KnownBytes.{Appends}
 use Rattle.clap.specs.Values.{kind_of}
 use Rattle.clap.specs.declared.error.Error.{Error}
 use Rattle.clap.specs.declared.error.kind.ErrorKind.TheVariants.{DisplayHelp, DisplayVersion}
-use Rattle.command_line.specs.Lines.{version_line}
+use Rattle.texts.specs.Writing.{AppendsBeginning}
+use Rattle.command_line.specs.Lines.{told_line, version_line}
 use Rattle.command_line.specs.declared.fault.Fault.{Fault}
 use Rattle.command_line.specs.declared.fault.Fault.TheVariants.{Usage, Label, File, Row, Refused, Audit, Apply, Acts, Value, Io, Store, Foreign}
 use Rattle.command_line.specs.declared.running.TheConstants.{DONE, REFUSED, MISUSED}
@@ -49,3 +50,24 @@ IsOutputOf (Err Value) old new status = new ≡ old
 IsOutputOf (Err Io) old new status = new ≡ old
 IsOutputOf (Err Store) old new status = new ≡ old
 IsOutputOf (Err Foreign) old new status = new ≡ old
+
+-- where help or the version was asked for, nothing is told, or that it could not be written
+pub record IsToldOfWords (error : Error) (old new : Option (List ℕ)) : Type 0 where
+  pub helped : (kind_of error ≡ DisplayHelp) ⊎ (kind_of error ≡ DisplayVersion) → AppendsBeginning old new (told_line Io)
+
+-- a line that was done tells nothing, and else its fault is told in one line, of which a beginning stands where the rest cannot be
+-- written; of words that are no line `clap` tells
+abbrev pub IsToldOf : Result Unit Fault → Option (List ℕ) → Option (List ℕ) → Type 0
+IsToldOf (Ok done) old new = new ≡ old
+IsToldOf (Err (Usage error)) old new = IsToldOfWords error old new
+IsToldOf (Err (Label fault)) old new = AppendsBeginning old new (told_line (Label fault))
+IsToldOf (Err (File fault)) old new = AppendsBeginning old new (told_line (File fault))
+IsToldOf (Err (Row row why)) old new = AppendsBeginning old new (told_line (Row row why))
+IsToldOf (Err (Refused why)) old new = AppendsBeginning old new (told_line (Refused why))
+IsToldOf (Err (Audit fault)) old new = AppendsBeginning old new (told_line (Audit fault))
+IsToldOf (Err (Apply fault)) old new = AppendsBeginning old new (told_line (Apply fault))
+IsToldOf (Err Acts) old new = AppendsBeginning old new (told_line Acts)
+IsToldOf (Err Value) old new = AppendsBeginning old new (told_line Value)
+IsToldOf (Err Io) old new = AppendsBeginning old new (told_line Io)
+IsToldOf (Err Store) old new = AppendsBeginning old new (told_line Store)
+IsToldOf (Err Foreign) old new = AppendsBeginning old new (told_line Foreign)

@@ -1,9 +1,8 @@
-ghost use Rattle.std.specs.Prelude.{◌≡◌, OnOk};
-ghost use Rattle.std.specs.Io.KnownBytes.{Appends};
+ghost use Rattle.std.specs.Prelude.{◌≡◌, ◌≤◌, ◌+◌, ◌++◌, length};
 ghost use Rattle.command_line.specs.Applying.{apply_code, apply_place};
 
+use crate::fault::{Told, push_act};
 use commands::Refusal;
-use std::io::{self, Write};
 
 /// Why a line of a history does not fit the books.
 #[derive(Clone, Copy)]
@@ -31,15 +30,20 @@ impl ApplyFault {
         }
     }
 
-    /// Writes what it is about: the act, or the line of the input.
-    pub(crate) fn write_place<E: Write>(&self, err: &mut E) -> io::Result<()>
-        ensures { OnOk result (Appends (E.contents err.old) (E.contents err.new) (apply_place self.now)) }
+    /// Adds what it is about: the act, or the line of the input.
+    pub(crate) fn push_place(&self, told: &mut Told)
+        requires { length told.old ≤ 19 }
+        ensures text { told.new ≡ told.old ++ apply_place self.now }
+        ensures size { length told.new ≤ length told.old + 67 }
     {
         match self {
-            ApplyFault::Differs { act } => write!(err, " act {act}"),
-            ApplyFault::Lacks { act } => write!(err, " act {act}"),
-            ApplyFault::Line { line } => write!(err, " {line}"),
-            ApplyFault::Act { act, refusal: _ } => write!(err, " act {act}"),
+            ApplyFault::Differs { act } => push_act(*act, told),
+            ApplyFault::Lacks { act } => push_act(*act, told),
+            ApplyFault::Line { line } => {
+                told.push_all(b" ");
+                told.push_decimal(*line);
+            }
+            ApplyFault::Act { act, refusal: _ } => push_act(*act, told),
         }
     }
 }

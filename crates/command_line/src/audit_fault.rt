@@ -1,9 +1,8 @@
-ghost use Rattle.std.specs.Prelude.{◌≡◌, OnOk};
-ghost use Rattle.std.specs.Io.KnownBytes.{Appends};
+ghost use Rattle.std.specs.Prelude.{◌≡◌, ◌≤◌, ◌+◌, ◌++◌, length};
 ghost use Rattle.command_line.specs.Audits.{audit_code, audit_place, row_place, spaced};
 
+use crate::fault::{Told, push_act};
 use commands::Refusal;
-use std::io::{self, Write};
 use values::Text;
 
 /// The bytes of a table's name, at most.
@@ -48,30 +47,37 @@ impl AuditFault {
         }
     }
 
-    /// Writes what it is about: the table, the table and the key, or the act.
-    pub(crate) fn write_place<E: Write>(&self, err: &mut E) -> io::Result<()>
-        ensures { OnOk result (Appends (E.contents err.old) (E.contents err.new) (audit_place self.now)) }
+    /// Adds what it is about: the table, the table and the key, or the act.
+    pub(crate) fn push_place(&self, told: &mut Told)
+        requires { length told.old ≤ 19 }
+        ensures text { told.new ≡ told.old ++ audit_place self.now }
+        ensures size { length told.new ≤ length told.old + 67 }
     {
         match self {
-            AuditFault::Row { table, key } => write_row(table.as_bytes(), key.as_bytes(), err),
-            AuditFault::Table { table } => write_word(table.as_bytes(), err),
-            AuditFault::Spelling { act } => write!(err, " act {act}"),
-            AuditFault::Act { act, refusal: _ } => write!(err, " act {act}"),
+            AuditFault::Row { table, key } => push_row(table, key, told),
+            AuditFault::Table { table } => push_word(table, told),
+            AuditFault::Spelling { act } => push_act(*act, told),
+            AuditFault::Act { act, refusal: _ } => push_act(*act, told),
         }
     }
 }
 
-fn write_row<E: Write>(table: &[u8], key: &[u8], err: &mut E) -> io::Result<()>
-    ensures { OnOk result (Appends (E.contents err.old) (E.contents err.new) (row_place table.now key.now)) }
+fn push_row(table: &Text<TABLE_NAME_MAX>, key: &Text<ROW_KEY_MAX>, told: &mut Told)
+    requires { length told.old ≤ 19 }
+    ensures text { told.new ≡ told.old ++ row_place table.now key.now }
+    ensures size { length told.new ≤ length told.old + 67 }
 {
-    write_word(table, err)?;
-    write_word(key, err)
+    push_word(table, told);
+    push_word(key, told);
 }
 
 /// A space and a word.
-fn write_word<E: Write>(word: &[u8], err: &mut E) -> io::Result<()>
-    ensures { OnOk result (Appends (E.contents err.old) (E.contents err.new) (spaced word.now)) }
+fn push_word<const N: usize>(word: &Text<N>, told: &mut Told)
+    requires { length told.old + N ≤ 85 }
+    ensures text { told.new ≡ told.old ++ spaced word.now }
+    ensures size { length told.new ≤ length told.old + N + 1 }
 {
-    err.write_all(b" ")?;
-    err.write_all(word)
+    let _ = word.len();
+    told.push_all(b" ");
+    told.push_all(word.as_bytes());
 }

@@ -1,13 +1,22 @@
-ghost use Rattle.std.specs.Prelude.{◌≡◌, OnOk};
+ghost use Rattle.std.specs.Prelude.{◌≡◌, ◌≤◌, ◌+◌, ◌++◌, length};
+ghost use Rattle.command_line.specs.Audits.{act_place};
+ghost use Rattle.command_line.specs.Lines.{row_told};
 
 use crate::apply_fault::ApplyFault;
 use crate::audit_fault::AuditFault;
 use clap::Error;
 use clap::error::ErrorKind;
-use commands::Refusal;
+use commands::{Buffer, Refusal};
 use goodsin::FileFault;
-use std::io::{self, Write};
+use std::io;
 use values::LabelFault;
+
+/// The bytes of a line that tells a fault, at most: `lotd: `, a word of 13, a table of 9 and a key of 56, each behind a
+/// space, and a line feed.
+const TOLD_MAX: usize = 87;
+
+/// The line that tells a fault.
+pub(crate) type Told = Buffer<TOLD_MAX>;
 
 /// Why a line of the program is not done.
 #[derive(Drop)]
@@ -39,12 +48,24 @@ pub enum Fault {
 }
 
 impl Fault {
-    ghost use Rattle.std.specs.Io.KnownBytes.{Appends};
-    ghost use Rattle.command_line.specs.Lines.{told_code, told_place};
+    ghost use Rattle.command_line.specs.Lines.{told_code, told_place, told_line};
 
-    /// What is told on standard error after `lotd: `.
-    pub(crate) fn code(&self) -> &'static str
-        ensures { result.now ≡ told_code self.now }
+    /// The line that tells it on standard error.
+    pub(crate) fn line(&self) -> Told
+        ensures { result ≡ told_line self.now }
+    {
+        let mut told = Buffer::new();
+        told.push_all(b"lotd: ");
+        told.push_all(self.code().as_bytes());
+        self.push_place(&mut told);
+        told.push_all(b"\n");
+        told
+    }
+
+    /// What is told after `lotd: `.
+    fn code(&self) -> &'static str
+        ensures text { result.now ≡ told_code self.now }
+        ensures size { length result.now ≤ 13 }
     {
         match self {
             Fault::Usage(_) => "usage",
@@ -62,18 +83,39 @@ impl Fault {
         }
     }
 
-    /// Writes what it is about, where that is a row of a file, a row or a table of the books, an act, or a line of a history.
-    pub(crate) fn write_place<E: Write>(&self, err: &mut E) -> io::Result<()>
-        ensures { OnOk result (Appends (E.contents err.old) (E.contents err.new) (told_place self.now)) }
+    /// Adds what it is about, where that is a row of a file, a row or a table of the books, an act, or a line of a history.
+    fn push_place(&self, told: &mut Told)
+        requires { length told.old ≤ 19 }
+        ensures text { told.new ≡ told.old ++ told_place self.now }
+        ensures size { length told.new ≤ length told.old + 67 }
     {
         match self {
-            Fault::File(FileFault::Row(row)) => write!(err, " row {row}"),
-            Fault::Row { row, refusal: _ } => write!(err, " row {row}"),
-            Fault::Audit(fault) => fault.write_place(err),
-            Fault::Apply(fault) => fault.write_place(err),
-            _ => Ok(()),
+            Fault::File(FileFault::Row(row)) => push_row(*row, told),
+            Fault::Row { row, refusal: _ } => push_row(*row, told),
+            Fault::Audit(fault) => fault.push_place(told),
+            Fault::Apply(fault) => fault.push_place(told),
+            _ => {}
         }
     }
+}
+
+fn push_row(row: u16, told: &mut Told)
+    requires { length told.old ≤ 19 }
+    ensures text { told.new ≡ told.old ++ row_told row }
+    ensures size { length told.new ≤ length told.old + 25 }
+{
+    told.push_all(b" row ");
+    told.push_decimal(u64::from(row));
+}
+
+/// Adds the number of an act.
+pub(crate) fn push_act(act: u64, told: &mut Told)
+    requires { length told.old ≤ 19 }
+    ensures text { told.new ≡ told.old ++ act_place act }
+    ensures size { length told.new ≤ length told.old + 25 }
+{
+    told.push_all(b" act ");
+    told.push_decimal(act);
 }
 
 impl From<Error> for Fault {

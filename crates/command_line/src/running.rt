@@ -2,9 +2,10 @@ ghost use Rattle.std.specs.Prelude.{◌≡◌, ◌⊎◌, ◌≤◌, Some, Ok, E
 ghost use Rattle.std.specs.Io.KnownBytes.{Appends, Keeps};
 ghost use Rattle.clap.specs.Values.{kind_of};
 ghost use Rattle.clap.specs.declared.error.kind.ErrorKind.TheVariants.{DisplayVersion};
-ghost use Rattle.command_line.specs.Lines.{told_line, version_line};
-ghost use Rattle.command_line.specs.Statuses.{IsStatusOf, IsStatusOfWords, IsOutputOf, IsOutputOfWords};
-ghost use Rattle.command_line.specs.Ends.{IsAudited, IsEndOf, IsEnded, IsOnDay, IsRun, IsToldOf, IsWorked};
+ghost use Rattle.texts.specs.Writing.{AppendsBeginning};
+ghost use Rattle.command_line.specs.Lines.{told_line, no_text_line, version_line};
+ghost use Rattle.command_line.specs.Statuses.{IsStatusOf, IsStatusOfWords, IsOutputOf, IsOutputOfWords, IsToldOf, IsToldOfWords};
+ghost use Rattle.command_line.specs.Ends.{IsAudited, IsEndOf, IsEnded, IsOnDay, IsRun, IsWorked};
 ghost use Rattle.command_line.specs.declared.running.Work.TheVariants.{Make, Audit};
 
 use crate::fault::Fault;
@@ -19,6 +20,7 @@ use std::alloc::Global;
 use std::convert::AsStr;
 use std::io;
 use std::io::{Read, Write};
+use texts::put;
 use values::LotId;
 
 /// The exit status of a line that was done, and of a call for help or the version.
@@ -262,32 +264,35 @@ fn tell_end<W: Write, E: Write>(end: Result<(), Fault>, out: &mut W, err: &mut E
 {
     match end {
         Ok(()) => DONE,
-        Err(Fault::Usage(error)) => tell_usage(&error, out, err),
-        Err(fault) => tell(&fault, err),
+        Err(fault) => tell_fault(&fault, out, err),
+    }
+}
+
+fn tell_fault<W: Write, E: Write>(fault: &Fault, out: &mut W, err: &mut E) -> u8
+    ensures status { IsStatusOf (Err fault.now) result }
+    ensures output { IsOutputOf (Err fault.now) (W.contents out.old) (W.contents out.new) result }
+    ensures told { IsToldOf (Err fault.now) (E.contents err.old) (E.contents err.new) }
+{
+    match fault {
+        Fault::Usage(error) => tell_usage(error, out, err),
+        _ => tell(fault, err),
     }
 }
 
 /// Tells a fault on `err`. What cannot be written there is lost.
 pub fn tell<E: Write>(fault: &Fault, err: &mut E) -> u8
-    ensures { result ≡ REFUSED }
+    ensures status { result ≡ REFUSED }
+    ensures told { AppendsBeginning (E.contents err.old) (E.contents err.new) (told_line fault.now) }
 {
-    let _ = write_fault(fault, err);
+    let _ = put(fault.line().as_bytes(), err);
     REFUSED
-}
-
-fn write_fault<E: Write>(fault: &Fault, err: &mut E) -> io::Result<()>
-    ensures { OnOk result (Appends (E.contents err.old) (E.contents err.new) (told_line fault.now)) }
-{
-    let code = fault.code();
-    write!(err, "lotd: {code}")?;
-    fault.write_place(err)?;
-    err.write_all(b"\n")
 }
 
 // Help and the version are told on `out`, and words that are no line on `err`.
 fn tell_usage<W: Write, E: Write>(error: &Error, out: &mut W, err: &mut E) -> u8
     ensures status { IsStatusOfWords error.now result }
     ensures output { IsOutputOfWords error.now (W.contents out.old) (W.contents out.new) result }
+    ensures told { IsToldOfWords error.now (E.contents err.old) (E.contents err.new) }
 {
     if error.use_stderr() {
         let _ = write!(err, "{error}");
@@ -312,8 +317,9 @@ fn print_words<W: Write>(asked: &Error, out: &mut W) -> io::Result<()>
 
 /// Tells that a word of the line is no text. What cannot be written to `err` is lost.
 pub fn tell_words<E: Write>(err: &mut E) -> u8
-    ensures { result ≡ MISUSED }
+    ensures status { result ≡ MISUSED }
+    ensures told { AppendsBeginning (E.contents err.old) (E.contents err.new) no_text_line }
 {
-    let _ = writeln!(err, "error: a word of the line is not UTF-8");
+    let _ = put(b"error: a word of the line is not UTF-8\n", err);
     MISUSED
 }

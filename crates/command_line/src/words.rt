@@ -1,3 +1,7 @@
+ghost use Rattle.std.specs.Prelude.{codes};
+ghost use Rattle.clap.specs.Matches.{found_of};
+ghost use Rattle.command_line.specs.Words.{IsNamed, IsLineOf};
+
 use crate::version::VERSION;
 use clap::{Arg, ArgAction, ArgMatches, Command, Error, value_parser};
 use std::alloc::{AllocError, Global};
@@ -398,7 +402,9 @@ pub(crate) fn read_line<'a, S: AsStr>(alloc: Global, words: &'a [S]) -> Result<L
     Ok(line)
 }
 
-fn line_found<'a>(matches: &ArgMatches<'a>) -> Line<'a> {
+fn line_found<'a>(matches: &ArgMatches<'a>) -> Line<'a>
+    ensures { IsLineOf matches.now result }
+{
     match matches.subcommand() {
         Some(("label", found)) => label_line(found),
         Some(("init", found)) => init_line(found),
@@ -413,21 +419,27 @@ fn line_found<'a>(matches: &ArgMatches<'a>) -> Line<'a> {
     }
 }
 
-fn label_line<'a>(found: &ArgMatches<'a>) -> Line<'a> {
+fn label_line<'a>(found: &ArgMatches<'a>) -> Line<'a>
+    ensures { IsNamed (codes "label") (found_of found.now) result }
+{
     match (found.get_str("day"), found.get_str("text")) {
         (Some(day), Some(text)) => Line::Label { day, text },
         _ => Line::Unknown,
     }
 }
 
-fn init_line<'a>(found: &ArgMatches<'a>) -> Line<'a> {
+fn init_line<'a>(found: &ArgMatches<'a>) -> Line<'a>
+    ensures { IsNamed (codes "init") (found_of found.now) result }
+{
     match (found.get_str("db"), found.get_str("day")) {
         (Some(db), Some(day)) => Line::Init { db, day },
         _ => Line::Unknown,
     }
 }
 
-fn serve_line<'a>(found: &ArgMatches<'a>) -> Line<'a> {
+fn serve_line<'a>(found: &ArgMatches<'a>) -> Line<'a>
+    ensures { IsNamed (codes "serve") (found_of found.now) result }
+{
     let (port, max) = (found.get_one::<u16>("port"), found.get_one::<u32>("max"));
     match (found.get_str("db"), port, max) {
         (Some(db), Some(port), Some(max)) => Line::Serve {
@@ -441,7 +453,9 @@ fn serve_line<'a>(found: &ArgMatches<'a>) -> Line<'a> {
     }
 }
 
-fn import_line<'a>(found: &ArgMatches<'a>) -> Line<'a> {
+fn import_line<'a>(found: &ArgMatches<'a>) -> Line<'a>
+    ensures { IsNamed (codes "import") (found_of found.now) result }
+{
     match (found.get_str("db"), found.get_str("file")) {
         (Some(db), Some(file)) => Line::Import {
             db,
@@ -452,7 +466,9 @@ fn import_line<'a>(found: &ArgMatches<'a>) -> Line<'a> {
     }
 }
 
-fn card_line<'a>(found: &ArgMatches<'a>) -> Line<'a> {
+fn card_line<'a>(found: &ArgMatches<'a>) -> Line<'a>
+    ensures { IsNamed (codes "card") (found_of found.now) result }
+{
     let (gtin, lot) = (found.get_str("gtin"), found.get_str("lot"));
     match (found.get_str("db"), gtin, lot) {
         (Some(db), Some(gtin), Some(lot)) => Line::Card { db, gtin, lot },
@@ -460,7 +476,9 @@ fn card_line<'a>(found: &ArgMatches<'a>) -> Line<'a> {
     }
 }
 
-fn notice_line<'a>(found: &ArgMatches<'a>) -> Line<'a> {
+fn notice_line<'a>(found: &ArgMatches<'a>) -> Line<'a>
+    ensures { IsNamed (codes "notice") (found_of found.now) result }
+{
     let (gtin, lot) = (found.get_str("gtin"), found.get_str("lot"));
     match (found.get_str("db"), gtin, lot) {
         (Some(db), Some(gtin), Some(lot)) => Line::Notice { db, gtin, lot },
@@ -468,14 +486,18 @@ fn notice_line<'a>(found: &ArgMatches<'a>) -> Line<'a> {
     }
 }
 
-fn history_line<'a>(found: &ArgMatches<'a>) -> Line<'a> {
+fn history_line<'a>(found: &ArgMatches<'a>) -> Line<'a>
+    ensures { IsNamed (codes "history") (found_of found.now) result }
+{
     match found.get_str("db") {
         Some(db) => Line::History { db },
         None => Line::Unknown,
     }
 }
 
-fn audit_line<'a>(found: &ArgMatches<'a>) -> Line<'a> {
+fn audit_line<'a>(found: &ArgMatches<'a>) -> Line<'a>
+    ensures { IsNamed (codes "audit") (found_of found.now) result }
+{
     match found.get_str("db") {
         Some(db) => Line::Audit {
             db,
@@ -485,7 +507,9 @@ fn audit_line<'a>(found: &ArgMatches<'a>) -> Line<'a> {
     }
 }
 
-fn apply_line<'a>(found: &ArgMatches<'a>) -> Line<'a> {
+fn apply_line<'a>(found: &ArgMatches<'a>) -> Line<'a>
+    ensures { IsNamed (codes "apply") (found_of found.now) result }
+{
     match (found.get_str("db"), found.get_str("file")) {
         (Some(db), Some(file)) => Line::Apply { db, file },
         _ => Line::Unknown,

@@ -1,6 +1,7 @@
 ghost use Rattle.std.specs.Prelude.{◌≡◌, true, false, IsErr, IsErrAnd, OnErr, IfOk, IfErr};
 ghost use Rattle.sqlite.specs.Held.{state};
 ghost use Rattle.sqlite.specs.State.{HasCleanDisk};
+ghost use Rattle.kept_lines.specs.Lines.{LosesNoLineIf};
 ghost use Rattle.line_work.specs.Works.{Listens, is_logged, IsServer, IsNotBegun, IsWorked, IsJudged, IsTold, IsKeptBeside};
 
 use apply_line::open_and_apply;
@@ -56,6 +57,7 @@ pub fn do_work<S: Orderly + Drop, D: Disk + Drop, F: FilesAt, W: Write, L: Write
     ensures worked { IfOk result (λ w. HasCleanDisk (state S.Store w.0) → IsWorked S.Store acts.old conn work.now (L.contents log.old) (L.contents log.new) w.1 w.0) }
     ensures told { IfOk result (λ w. HasCleanDisk (state S.Store w.0) → IsTold S.Store (F.bytes files.now) acts.old conn work.now (W.contents out.old) (W.contents out.new) w.1 w.0) }
     ensures beside { IfOk result (λ w. HasCleanDisk (state S.Store w.0) → IsKeptBeside S.Store D.Disk (F.bytes files.now) conn work.now (W.contents out.old) (W.contents out.new) (L.contents log.old) (L.contents log.new) w.1 w.0 acts.old acts.new) }
+    ensures lines { LosesNoLineIf D.Disk acts.old acts.new }
     ensures quiet { is_logged work.now ≡ false → log.new ≡ log.old }
     ensures judged { IsJudged S.Store conn work.now result }
     ensures within { conn.in_transaction ≡ true → IsErrAnd result (λ e. (e.0 ≡ Leftover.Connection conn) × (e.1 ≡ Fault.Store)) }

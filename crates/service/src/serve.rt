@@ -1,4 +1,4 @@
-ghost use Rattle.std.specs.Prelude.{◌≡◌, ℤ, List, true, false};
+ghost use Rattle.std.specs.Prelude.{◌≡◌, ℕ, ℤ, List, true, false, IsTrue};
 ghost use Rattle.machine.specs.Acts.{Act};
 ghost use Rattle.machine.specs.Once.{IsHistory};
 ghost use Rattle.store.specs.Books.{IsClean, HoldsBooks};
@@ -84,6 +84,8 @@ pub fn serve_kept<C: Clock, S: Alter + Drop, L: Write, K: Keeper<S>>(
     ensures served { IsClean S.Store (books_of house.new)
         → (first : ℤ) (acts : List Act) → IsHistory first acts → HoldsBooks S.Store first acts (books_of house.old)
         → HasKept S.Store K.keeps K.begins first acts max (books_of house.old) (books_of house.new) true result (L.contents log.old) (L.contents log.new) keeper.old keeper.new }
+    ensures loses { (text : List ℕ) → K.has_text keeper.old text → K.has_text keeper.new text }
+    ensures calm { IsTrue (K.is_clean keeper.new) → IsTrue (K.is_clean keeper.old) }
 {
     for _ in 0..max {
         serve_next(clock, listener, house, log, keeper)?;
@@ -105,6 +107,8 @@ pub fn serve_kept_if<C: Clock, S: Alter + Drop, L: Write, K: Keeper<S>>(
     ensures served { IsClean S.Store (books_of house.new)
         → (first : ℤ) (acts : List Act) → IsHistory first acts → HoldsBooks S.Store first acts (books_of house.old)
         → HasKept S.Store K.keeps K.begins first acts max (books_of house.old) (books_of house.new) logged result (L.contents log.old) (L.contents log.new) keeper.old keeper.new }
+    ensures loses { (text : List ℕ) → K.has_text keeper.old text → K.has_text keeper.new text }
+    ensures calm { IsTrue (K.is_clean keeper.new) → IsTrue (K.is_clean keeper.old) }
     ensures quiet { logged ≡ false → log.new ≡ log.old }
 {
     if logged {
@@ -126,6 +130,8 @@ fn serve_next<C: Clock, S: Alter + Drop, L: Write, K: Keeper<S>>(
     ensures step { IsClean S.Store (books_of house.new)
         → (first : ℤ) (acts : List Act) → IsHistory first acts → HoldsBooks S.Store first acts (books_of house.old)
         → GoesOnKept S.Store K.keeps K.begins first acts (books_of house.old) (books_of house.new) result (L.contents log.old) (L.contents log.new) keeper.old keeper.new }
+    ensures loses { (text : List ℕ) → K.has_text keeper.old text → K.has_text keeper.new text }
+    ensures calm { IsTrue (K.is_clean keeper.new) → IsTrue (K.is_clean keeper.old) }
 {
     if let Ok((stream, _)) = listener.accept() {
         if let Ok(start) = Instant::now(clock) {
@@ -147,6 +153,8 @@ fn serve_stream<C: Clock, S: Alter + Drop, L: Write, K: Keeper<S>>(
     ensures step { IsClean S.Store (books_of house.new)
         → (first : ℤ) (acts : List Act) → IsHistory first acts → HoldsBooks S.Store first acts (books_of house.old)
         → GoesOnKept S.Store K.keeps K.begins first acts (books_of house.old) (books_of house.new) result (L.contents log.old) (L.contents log.new) keeper.old keeper.new }
+    ensures loses { (text : List ℕ) → K.has_text keeper.old text → K.has_text keeper.new text }
+    ensures calm { IsTrue (K.is_clean keeper.new) → IsTrue (K.is_clean keeper.old) }
 {
     let mut reader = Timed {
         stream,

@@ -7,7 +7,7 @@ use Rattle.books_file.proofs.acts_file.open_named.Goals as goal
 
 pub returns-in-Some-clause-opened : goal.returns-in-Some-clause-opened
 returns-in-Some-clause-opened g c =
-    IfOk-weaker c.open_acts.result _ _ (λ acts there. found_beside _ _ (names_acts c.args.work.now) acts (sym c.acts_name.ensures ∙ ap is_some c.in-Some.is) there) c.open_acts.ensures
+    IfOk-weaker c.open_acts.result _ _ (λ acts there. found_beside _ (names_acts c.args.work.now) acts (sym c.acts_name.ensures ∙ ap is_some c.in-Some.is) there) c.open_acts.ensures
 
 pub returns-in-None-clause-opened : goal.returns-in-None-clause-opened
-returns-in-None-clause-opened g c = found_none _ _ (names_acts c.args.work.now) _ refl (sym c.acts_name.ensures ∙ ap is_some c.in-None.is)
+returns-in-None-clause-opened g c = found_none _ (names_acts c.args.work.now) _ refl (sym c.acts_name.ensures ∙ ap is_some c.in-None.is)

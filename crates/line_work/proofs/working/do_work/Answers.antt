@@ -4,6 +4,7 @@ use Rattle.std.proofs.lemmas.Result.{IfOk-weaker}
 use Rattle.sqlite.specs.Held.{state}
 use Rattle.sqlite.specs.State.{HasCleanDisk}
 use Rattle.line_work.specs.Works.{IsWorked, IsTold, IsKeptBeside, IsJudged, IsNotBegun, is_logged}
+use Rattle.kept_lines.proofs.Losing.{left_alone}
 use Rattle.line_work.proofs.working.do_work.Goals as goal
 
 pub returns-in-Make-clause-judged : goal.returns-in-Make-clause-judged
@@ -156,3 +157,21 @@ returns-in-Import-clause-beside g c =
     subst (λ work. IfOk c.import_line.result (λ w. HasCleanDisk (state g.S.Store w.0)
     → IsKeptBeside g.S.Store g.D.Disk (g.F.FilesAt.bytes c.args.files.now) c.args.conn work (at c.args.out.now) (at c.import_line.new.out) log log w.1 w.0 c.args.acts.now c.import_line.new.acts))
     (sym c.in-Import.is) c.import_line.ensures.beside
+
+pub returns-in-Make-clause-lines : goal.returns-in-Make-clause-lines
+returns-in-Make-clause-lines g c = left_alone g.D.Disk c.args.acts.now
+
+pub returns-in-Card-clause-lines : goal.returns-in-Card-clause-lines
+returns-in-Card-clause-lines g c = left_alone g.D.Disk c.args.acts.now
+
+pub returns-in-Notice-clause-lines : goal.returns-in-Notice-clause-lines
+returns-in-Notice-clause-lines g c = left_alone g.D.Disk c.args.acts.now
+
+pub returns-in-History-clause-lines : goal.returns-in-History-clause-lines
+returns-in-History-clause-lines g c = left_alone g.D.Disk c.args.acts.now
+
+pub returns-in-Audit-clause-lines : goal.returns-in-Audit-clause-lines
+returns-in-Audit-clause-lines g c = left_alone g.D.Disk c.args.acts.now
+
+pub returns-in-Apply-clause-lines : goal.returns-in-Apply-clause-lines
+returns-in-Apply-clause-lines g c = left_alone g.D.Disk c.args.acts.now
