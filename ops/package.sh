@@ -1,6 +1,6 @@
 #!/bin/sh
-# Makes a Debian package of the built lotd: the program, the units for systemd, the page, the documents, and the proxy's file as
-# an example. Prints the path of the package, in ops/out. LOTD names the program; else build.sh proves and builds it.
+# Makes a Debian package of the built lotd: the program, the units and timers for systemd with their scripts, the page, the
+# documents, and the proxy's files as examples. Prints the path of the package, in ops/out. LOTD names the program; else build.sh proves it, and LLVM builds it.
 # What `dpkg` does with it: at install it makes the user lotd and the folder /var/lib/lotd, and starts a server anew that runs;
 # at removal it ends the server; it never touches the books, the folder and the user.
 # Needs dpkg-dev (Debian).
@@ -9,7 +9,7 @@ umask 022
 cd "$(dirname "$0")/.."
 
 if [ -z "${LOTD:-}" ]; then
-    sh build.sh >&2
+    sh build.sh llvm >&2
     LOTD=crates/lotd/out/lotd
 fi
 room=$(mktemp -d)
@@ -36,13 +36,16 @@ install -D -m 755 "$LOTD" "$root/usr/bin/lotd"
 install -d "$root/usr/lib/systemd/system" "$shared" "$documents/examples"
 # unit NAME: the unit of this name, over the program of the package
 unit() {
-    replaced "ops/$1.service" /usr/local/bin/lotd /usr/bin/lotd |
+    replaced "ops/$1.service" "/usr/local/bin/" /usr/bin/ |
         sed "/^#   systemctl daemon-reload/d; s| Put it into /etc/systemd/system, then:\$| As root: systemctl enable --now $1|" >"$root/usr/lib/systemd/system/$1.service"
 }
 
-unit lotd
-unit lotd-standby
-replaced ops/nginx.conf /usr/local/share/lotd /usr/share/lotd | sed '/^#   install -d/d; s/, readable by all:$/./' >"$documents/examples/nginx.conf"
+for it in lotd lotd-standby lotd-day lotd-backup; do unit "$it"; done
+install -m 755 ops/lotd-day ops/lotd-backup "$root/usr/bin/"
+install -m 644 ops/lotd-restart.service ops/lotd-*.timer "$root/usr/lib/systemd/system/"
+replaced ops/nginx-lotd.conf /usr/local/share/lotd /usr/share/lotd | sed '/^#   install -d/d; s/, readable by all:$/./' >"$documents/examples/nginx-lotd.conf"
+install -m 644 ops/nginx.conf "$documents/examples/"
+gzip -9n <docs/CHANGES.md >"$documents/changelog.gz"
 cp -r ops/page "$shared/"
 cp -r README.md docs "$documents/"
 
@@ -55,9 +58,9 @@ Version: $version
 Architecture: $arch
 Maintainer: ${DEBFULLNAME:-Lot stock} <${DEBEMAIL:-lotd@localhost}>
 Installed-Size: $(du -sk "$root/usr" | cut -f 1)
-Depends: $depends, passwd
+Depends: $depends, curl, passwd
 Recommends: nginx, openssl
-Suggests: curl, openssh-client, sqlite3
+Suggests: openssh-client, sqlite3
 Section: misc
 Priority: optional
 Description: stock system of a food wholesaler's warehouse
@@ -78,7 +81,7 @@ if [ "$1" = configure ]; then
     fi
     if [ -d /run/systemd/system ]; then
         systemctl daemon-reload
-        systemctl try-restart lotd.service lotd-standby.service
+        systemctl try-restart lotd.service lotd-standby.service lotd-day.timer lotd-backup.timer lotd-restart.timer
     fi
 fi
 SCRIPT
@@ -86,7 +89,7 @@ cat >"$root/DEBIAN/prerm" <<'SCRIPT'
 #!/bin/sh
 set -e
 if [ "$1" = remove ] && [ -d /run/systemd/system ]; then
-    systemctl disable --now lotd.service lotd-standby.service || true
+    systemctl disable --now lotd-day.timer lotd-backup.timer lotd-restart.timer lotd.service lotd-standby.service || true
 fi
 SCRIPT
 cat >"$root/DEBIAN/postrm" <<'SCRIPT'

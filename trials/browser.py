@@ -126,6 +126,11 @@ def until(what, holds, seconds=40):
         time.sleep(0.03)
 
 
+def said(what):
+    """The text of an element that something else may lie over."""
+    return one(what).get_attribute("textContent")
+
+
 def until_open():
     until("the page", lambda: text("#title") != "" and "…" not in text("#sent"))
 
@@ -215,6 +220,26 @@ def size(width, height, scale):
 SMALL = """return [...document.querySelectorAll("a, button, input, select")].filter(it => it.checkVisibility() && !it.closest("p, h2, h3, li, nav"))
     .filter(it => it.getBoundingClientRect().height < 46 && !it.closest("label")).map(it => it.outerHTML)"""
 
+# Elements that are beside the screen, fields whose value is cut, and words of up to 22 characters that stand in two lines.
+CRAMPED = """const found = [], shown = it => it.checkVisibility() && !it.closest("svg, noscript, option");
+for (const it of [...document.querySelectorAll("body *")].filter(shown)) {
+  const { left, right, width } = it.getBoundingClientRect();
+  if (width && (left < -0.5 || right > innerWidth + 0.5)) found.push("beside: " + it.outerHTML.slice(0, 99));
+  if (it.matches("input:not([type=checkbox], [type=file])") && it.value && it.scrollWidth > it.clientWidth + 1) found.push("cut: " + it.value);
+}
+const texts = document.createTreeWalker(document.body, NodeFilter.SHOW_TEXT);
+for (let node; (node = texts.nextNode()); ) if (shown(node.parentElement)) {
+  for (const { 0: word, index } of node.data.matchAll(/(?<!\\S)\\S{1,22}(?!\\S)/g)) {
+    const range = document.createRange();
+    range.setStart(node, index);
+    range.setEnd(node, index + word.length);
+    if (new Set([...range.getClientRects()].filter(it => it.width).map(it => Math.round(it.top))).size > 1) found.push("broken: " + word);
+  }
+}
+return found"""
+PLACES = "return Object.fromEntries([...document.querySelectorAll('button, a.button, input')].filter(it => it.checkVisibility())" \
+    ".map((it, at) => [`${at} ${it.textContent || it.name}`, [it.getBoundingClientRect().left, it.getBoundingClientRect().top]]))"
+
 
 def is_fit(name):
     """Nothing is beside the screen of a hand or of a desk; what a finger touches is large; what a reader of the screen comes to
@@ -223,6 +248,7 @@ def is_fit(name):
         size(*shape)
         wide = run("return document.documentElement.scrollWidth")
         is_told("the width of %s on a screen of %d" % (name, shape[0]), True, wide <= shape[0])
+        is_told("what is cramped in %s on a screen of %d" % (name, shape[0]), [], run(CRAMPED))
         for look in ("light", "dark") if SHOTS else ():
             cdp("Emulation.setEmulatedMedia", features=[{"name": "prefers-color-scheme", "value": look}])
             time.sleep(0.2)
@@ -266,6 +292,7 @@ if __name__ == "__main__":                      # browser.py FOLDER PORT SCREEN 
     folder, port, screen, words = sys.argv[1:]
     try:
         begin(folder, int(port), chromedriver())
+        run("localStorage.setItem('lot-stock/sign', 'QA7'); localStorage.setItem('lot-stock/signed', Date.now())")
         go(screen)
         until(words, lambda: words in text("main"))
     finally:

@@ -1,4 +1,4 @@
-"""What the trials behind the proxy share: the file of `ops/nginx.conf` with its ports and files elsewhere, and nginx with it."""
+"""What the trials behind the proxy share: the files of `ops/nginx.conf` and `ops/nginx-lotd.conf` with their ports and files elsewhere, and nginx with it."""
 import os
 import shutil
 import socket
@@ -27,28 +27,35 @@ def write_users(room, *names):
         file.writelines("%s:%s" % (name, hashed) for name in names)
 
 
-def proxy_file(room, tls, port):
-    """The file of the repository: it listens on `tls` and asks at `port`, and its page is that of the repository."""
-    with open(os.path.join(TOP, "ops/nginx.conf"), encoding="utf-8") as file:
+def placed(name, room, *pairs):
+    """A file of the repository in the room, with each old text as the new one; there has to be one of each."""
+    with open(os.path.join(TOP, "ops", name), encoding="utf-8") as file:
         text = file.read()
-    for old, new in [
+    for old, new in pairs:
+        if text.count(old) != 1:
+            sys.exit("ops/%s: expected one %r, got %d" % (name, old.strip(), text.count(old)))
+        text = text.replace(old, new)
+    path = os.path.join(room, name)
+    with open(path, "w", encoding="utf-8") as file:
+        file.write(text)
+    return path
+
+
+def proxy_file(room, tls, port):
+    """The files of the repository: nginx listens on `tls` and asks at `port`, and its page is that of the repository."""
+    own = placed(
+        "nginx-lotd.conf", room,
         ("listen 8443 ssl;", "listen 127.0.0.1:%d ssl;" % tls),
         ("http://127.0.0.1:8080;", "http://127.0.0.1:%d;" % port),
         ("/etc/nginx/lotd.crt", room + "/lotd.crt"),
         ("/etc/nginx/lotd.key", room + "/lotd.key"),
         ("auth_basic_user_file /etc/nginx/lotd.users", "auth_basic_user_file %s/lotd.users" % room),
         ("access_log /var/log/nginx/lotd.log", "access_log %s/lotd.log" % room),
-        ("root /usr/local/share/lotd", "root %s/shared" % room),
-        ("http {\n", "http {\n" + "".join("    %s_temp_path %s/%s;\n" % (it, room, it) for it in
-                                        ("client_body", "proxy", "fastcgi", "uwsgi", "scgi"))),
-    ]:
-        if text.count(old) != 1:
-            sys.exit("ops/nginx.conf: expected one %r, got %d" % (old.strip(), text.count(old)))
-        text = text.replace(old, new)
-    path = os.path.join(room, "nginx.conf")
-    with open(path, "w", encoding="utf-8") as file:
-        file.write(text)
-    return path
+        ("alias /var/lib/lotd-day/", "alias %s/state/" % room),
+        ("alias /var/lib/lotd-backup/", "alias %s/state/" % room),
+        ("root /usr/local/share/lotd", "root %s/shared" % room))
+    kept = "".join("    %s_temp_path %s/%s;\n" % (it, room, it) for it in ("client_body", "proxy", "fastcgi", "uwsgi", "scgi"))
+    return placed("nginx.conf", room, ("    include /etc/nginx/conf.d/lotd.conf;", kept + "    include %s;" % own))
 
 
 def proxy(nginx, openssl, room, tls, port):

@@ -1,12 +1,14 @@
 #!/bin/sh
 # The Debian package of ops/package.sh in a clean root, which debootstrap makes of Debian's own packages: `dpkg -i`; the user
 # and the folder are there, and nobody else may look into it; books are made, the server is started and asked through nginx by
-# the file that the package brings as an example, with the steps of docs/OPERATIONS.md; the page is loaded, by a browser too
-# where there is one; a newer package, a removal, a purge and an installation anew leave every byte of the books.
-# Needs the Rattle kit, root, debootstrap, dpkg-dev and curl (Debian), and a mirror of Debian, or ROOT, a folder that debootstrap
-# made before with nginx and openssl in it, which is copied. The server has PORT, the proxy the next one. A folder has no systemd,
-# so the units are only read by systemd-analyze, where there is one.
-# Exit status 0 only if all was as expected, and 3 where debootstrap is not there or this is not root.
+# the files that the package brings as examples, with the steps of docs/OPERATIONS.md; the page is loaded, by a browser too
+# where there is one; a newer package, a removal, a purge and an installation anew leave every byte of the books. Then the same
+# root is booted with systemd, in a container without a network, and the timers are tried (trials/timers.sh).
+# Needs the Rattle kit, root, debootstrap, dpkg-dev, curl and systemd-nspawn (Debian's systemd-container), and a mirror of Debian,
+# or ROOT, a folder that debootstrap made before with what is included below, which is copied. The server has PORT, the proxy the
+# next one.
+# Exit status 0 only if all was as expected, and 3 where debootstrap is not there, this is not root, or no container can be booted:
+# then the units are read by systemd-analyze alone, and all else was as expected.
 set -eu
 cd "$(dirname "$0")/.."
 
@@ -71,7 +73,7 @@ package=$(sh ops/package.sh)
 if [ -n "${ROOT:-}" ]; then
     cp -a "$ROOT" "$root"
 else
-    debootstrap --variant=minbase --include=nginx,openssl "$(sed -n 's/^VERSION_CODENAME=//p' /etc/os-release)" "$root" >"$room/log" ||
+    debootstrap --variant=minbase --include=nginx,openssl,curl,systemd,systemd-sysv,dbus "$(sed -n 's/^VERSION_CODENAME=//p' /etc/os-release)" "$root" >"$room/log" ||
         { tail -5 "$room/log" >&2; exit 1; }
 fi
 cp "$package" "$root/lotd.deb"
@@ -80,13 +82,17 @@ expect "the package" "install ok installed" "$(within dpkg-query -W -f '${Status
 expect "the folder" "lotd lotd 700" "$(within stat -c '%U %G %a' /var/lib/lotd)"
 expect "the user's shell" /usr/sbin/nologin "$(within getent passwd lotd | cut -d: -f7)"
 expect "whether all files are as they were made" "" "$(within dpkg -V lotd)"
-if command -v systemd-analyze >/dev/null; then
-    for unit in lotd lotd-standby; do
+expect "the list of what changed" "# Changes" "$(within zcat /usr/share/doc/lotd/changelog.gz | head -1)"
+for unit in lotd lotd-standby lotd-restart lotd-day lotd-backup; do
+    if command -v systemd-analyze >/dev/null; then
         sed "s|/usr/bin/lotd|$root/usr/bin/lotd|" "$root/usr/lib/systemd/system/$unit.service" >"$room/$unit.service"
         expect "the unit $unit" "" "$(systemd-analyze verify --man=no "$room/$unit.service" 2>&1 | grep "$unit.service" || true)"
-    done
-fi
-echo "  installed: user, folder, files, units"
+    fi
+    if [ "$unit" = lotd ] || [ "$unit" = lotd-standby ]; then continue; fi
+    expect "whether the timer of $unit comes late too" Persistent=true "$(grep '^Persistent' "$root/usr/lib/systemd/system/$unit.timer")"
+done
+expect "words of the tree in the package's files" "" "$(grep -l /usr/local "$root"/usr/lib/systemd/system/lotd* "$root"/usr/share/doc/lotd/examples/* || true)"
+echo "  installed: user, folder, files, units, timers, changelog"
 
 # By the steps of docs/OPERATIONS.md, with ports of their own.
 within runuser -u lotd -- lotd init --db /var/lib/lotd/stock.db --day 2026-05-04
@@ -95,7 +101,10 @@ within openssl req -x509 -newkey rsa:2048 -nodes -days 2 -subj /CN=localhost -ad
     -keyout /etc/nginx/lotd.key -out /etc/nginx/lotd.crt 2>/dev/null
 within sh -c 'printf "scanner:%s\n" "$(openssl passwd -apr1 secret)" >/etc/nginx/lotd.users; chown root:www-data /etc/nginx/lotd.users; chmod 640 /etc/nginx/lotd.users'
 sed -e "s|listen 8443 ssl;|listen 127.0.0.1:$tls ssl;|" -e "s|127.0.0.1:8080;|127.0.0.1:$port;|" \
-    "$root/usr/share/doc/lotd/examples/nginx.conf" >"$root/etc/nginx/nginx.conf"
+    "$root/usr/share/doc/lotd/examples/nginx-lotd.conf" >"$root/etc/nginx/conf.d/lotd.conf"
+rm -f "$root/etc/nginx/sites-enabled/default"
+expect "the file beside what Debian's nginx has" 0 "$(within nginx -t -q >"$room/log" 2>&1; echo $?)"
+cp "$root/usr/share/doc/lotd/examples/nginx.conf" "$root/etc/nginx/nginx.conf"
 chroot "$root" nginx -g 'daemon off;' &
 proxy=$!
 for _ in $(seq 100); do
@@ -105,6 +114,7 @@ done
 expect "an item" '{"act":1}' "$(through -d '{"key":"I-1","gtin":"09506000134352","name":"Oat drink"}' "https://localhost:$tls/items")"
 expect "of another origin" 403 "$(through -o /dev/null -w '%{http_code}' -H 'Origin: https://evil.example' -d '{}' "https://localhost:$tls/items")"
 expect "without a password" 401 "$(curl -s --cacert "$root/etc/nginx/lotd.crt" -o /dev/null -w '%{http_code}' "https://localhost:$tls/page/")"
+expect "the state without a password" 401 "$(curl -s --cacert "$root/etc/nginx/lotd.crt" -o /dev/null -w '%{http_code}' "https://localhost:$tls/state/copy.json")"
 (cd ops/page && find . -type f) | while read -r file; do
     through "https://localhost:$tls/page/$file" | cmp - "ops/page/$file"
 done
@@ -112,8 +122,11 @@ if command -v chromedriver >/dev/null; then
     python3 trials/browser.py "$room" "$tls" item/09506000134352 "Oat drink"
     echo "  the page is loaded by a browser, and shows the item"
 fi
+kill "$proxy"
+wait "$proxy" || true
+proxy=
 stop
-echo "  the server and the proxy answer, by the example that the package brings; every file of the page is handed out"
+echo "  the server and the proxy answer, by the examples that the package brings; every file of the page is handed out"
 
 before=$(books)
 within dpkg -i /lotd.deb >"$room/log"
@@ -127,8 +140,15 @@ expect "the books behind a purge" "$before" "$(books)"
 expect "the folder behind a purge" "lotd lotd 700" "$(within stat -c '%U %G %a' /var/lib/lotd)"
 within dpkg -i /lotd.deb >"$room/log"
 serve
-expect "what they hold" '{"gtin":"09506000134352","lots":[],"name":"Oat drink"}' "$(through "https://localhost:$tls/stock/09506000134352")"
+expect "what they hold" '{"gtin":"09506000134352","lots":[],"name":"Oat drink"}' "$(curl -s "http://127.0.0.1:$port/stock/09506000134352")"
 stop
 expect "an audit" "audited 1 acts from 2026-05-04" "$(within runuser -u lotd -- lotd audit --db /var/lib/lotd/stock.db)"
-echo "  another installation, a removal, a purge and an installation anew leave every byte of the books"
-echo "package: all was as expected"
+echo "  another installation, a removal and a purge leave every byte of the books"
+
+status=0
+sh trials/timers.sh "$root" || status=$?
+case $status in
+    0) echo "package: all was as expected" ;;
+    3) echo "package: all was as expected, but the timers were not tried" ;;
+esac
+exit "$status"

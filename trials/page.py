@@ -1,4 +1,4 @@
-"""The page of `ops/page` in a real browser, behind the proxy of `ops/nginx.conf` with its ports and files elsewhere: the way of
+"""The page of `ops/page` in a real browser, behind the proxy of `ops/nginx-lotd.conf` with its ports and files elsewhere: the way of
 a lot from goods in to the recall notice, by scanned labels; answers that are lost, a server that is killed, 503, a page of
 another server, a server that is silent, a closed and a killed browser, no network, two windows: each act stands once; what is
 refused, in words, for every code of the documents; lots and names with marks; requests of other origins; small and large.
@@ -6,186 +6,25 @@ Needs the Rattle kit and Debian's nginx, openssl, chromium, chromium-driver and 
 It has four ports from PORT on. SHOTS names a folder for pictures of the screens.
 Exit status 0 only if all was as expected, and 3 where nginx, the browser or selenium is not there.
 """
-import base64
-import http.server
 import json
 import os
 import re
-import socket
-import socketserver
-import ssl
 import subprocess
-import sys
 import threading
 import time
-import urllib.error
-import urllib.request
 
 import browser
 import nginx
+import page_lists
+import page_looks
 import server
-from browser import by_hand, cdp, console, enter, every, go, is_fit, is_printed, is_told, key, mean, one, press, run, scan, text
+from browser import by_hand, console, enter, every, go, is_fit, is_printed, is_told, mean, one, press, run, scan, text
 from browser import until, until_answered, until_told
+from gate import Gate, Threads
+from page_house import BACK, DAY, DB, GATE, OAT, OTHER, OWN, TEA, TLS, OtherSite
+from page_house import asked, driver, house, in_days, label, logged, lotd, lots_of, passed, programs, receives, room
 from server import TOP
 
-driver = browser.chromedriver()
-programs = [nginx.found(name, "page", "nginx openssl") for name in ("nginx", "openssl")]
-lotd, room = server.program(), server.room()
-TLS, GATE, BACK, OTHER = (server.number("PORT", 18090) + it for it in range(4))
-OWN = "https://localhost:%d" % TLS
-DB = room + "/stock.db"
-OAT, TEA = "09506000134352", "04006381333931"
-GS = browser.GS
-DAY = time.strftime("%Y-%m-%d")
-steps = 0
-
-
-def passed(what):
-    global steps
-    steps += 1
-    print("  %2d %s" % (steps, what), flush=True)
-
-
-# ---- lotd, a gate before it that may spoil an answer, and another site
-
-class Lotd:
-    process = None
-
-    def up(self):
-        self.process = server.Server(lotd, DB, BACK, 1_000_000)
-
-    def down(self):
-        if self.process:
-            self.process.end()
-            self.process = None
-
-
-def request_of(peer):
-    """A request, whole."""
-    raw = b""
-    while b"\r\n\r\n" not in raw:
-        more = peer.recv(65536)
-        if not more:
-            return raw
-        raw += more
-    length = re.search(rb"(?i)\r\ncontent-length: *(\d+)", raw)
-    wanted = raw.index(b"\r\n\r\n") + 4 + (int(length[1]) if length else 0)
-    while len(raw) < wanted:
-        more = peer.recv(65536)
-        if not more:
-            break
-        raw += more
-    return raw
-
-
-def answer(status, kind, body):
-    return b"HTTP/1.1 %s\r\ncontent-type: %s\r\ncontent-length: %d\r\nconnection: close\r\n\r\n%s" % (status, kind, len(body), body)
-
-
-SPOILED = {
-    "503": answer(b"503 Service Unavailable", b"application/json", b'{"code":"W90"}'),
-    "other": answer(b"200 OK", b"text/html", b"<h1>Guest Wi-Fi</h1>"),
-}
-
-
-class Gate(socketserver.BaseRequestHandler):
-    """Between the proxy and lotd. `lost` hands a POST over and throws its answer away, `kill` kills lotd then too; `silent`
-    takes requests and says nothing, as a server does that is just starting; `503` and `other` answer in lotd's place."""
-    mode = "pass"
-    posts = []                                  # the bodies that came since the list was emptied
-
-    def handle(self):
-        raw, mode = request_of(self.request), Gate.mode
-        if raw.startswith(b"POST"):
-            Gate.posts.append(raw.split(b"\r\n\r\n", 1)[1])
-        elif mode in ("lost", "kill"):
-            mode = "pass"
-        while Gate.mode == "silent":
-            time.sleep(0.05)
-        if mode in SPOILED:
-            self.request.sendall(SPOILED[mode])
-            return
-        try:
-            with server.asked(BACK, raw) as behind:
-                told = server.bytes_of(behind)
-        except OSError:
-            return
-        if mode == "kill":
-            house.down()
-        if mode in ("pass", "silent"):
-            try:
-                self.request.sendall(told)
-            except OSError:
-                pass                            # who asked is gone
-
-
-class Threads(socketserver.ThreadingTCPServer):
-    allow_reuse_address = daemon_threads = True
-    request_queue_size = 64
-
-    def handle_error(self, *_):
-        pass
-
-
-class OtherSite(http.server.BaseHTTPRequestHandler):
-    """Another site, whose pages send a hold with the browser's password: by a form as text, whose `=` stands in a member that
-    another one of its name follows; by a script; and a picture of what lotd shows."""
-    BODY = '{"key":"EVIL","gtin":"%s","lot":"L4"}' % OAT
-    PAGES = {
-        "/form": "<form method=post enctype=text/plain action=%s/holds><input name='%s' value='%s'></form><script>document.forms[0].submit()</script>"
-                 % (OWN, BODY.replace('L4"}', ""), '","lot":"L4"}'),
-        "/script": "<script>fetch('%s/holds',{method:'POST',mode:'no-cors',credentials:'include',body:'%s'})"
-                   ".finally(()=>document.title='sent')</script>" % (OWN, BODY),
-        "/picture": "<img src=%s/stock/%s onerror=\"document.title='sent'\">" % (OWN, OAT),
-    }
-
-    def do_GET(self):
-        body = self.PAGES.get(self.path, "").encode()
-        self.send_response(200)
-        self.send_header("content-type", "text/html")
-        self.end_headers()
-        self.wfile.write(body)
-
-    def log_message(self, *_):
-        pass
-
-
-house = Lotd()
-
-
-def asked(path, body=None, **fields):
-    """The status, the body and the head of an answer, through the proxy."""
-    trusted = ssl.create_default_context(cafile=room + "/lotd.crt")
-    fields.setdefault("Authorization", "Basic " + base64.b64encode(("%s:%s" % (nginx.USER, nginx.PASSWORD)).encode()).decode())
-    wanted = urllib.request.Request(OWN + path, None if body is None else body.encode(), {name.replace("_", "-"): it for name, it in fields.items()})
-    try:
-        with urllib.request.urlopen(wanted, context=trusted) as told:
-            return told.status, told.read().decode(), dict(told.headers)
-    except urllib.error.HTTPError as fault:
-        return fault.code, fault.read().decode(), dict(fault.headers)
-
-
-def lots_of(gtin=OAT):
-    return {lot["lot"]: lot for lot in json.loads(asked("/stock/" + gtin)[1])["lots"]}
-
-
-def in_days(days):
-    return time.strftime("%y%m%d", time.gmtime(time.time() + days * 86400))
-
-
-def label(lot, days, gtin=OAT, is_last=False):
-    """The label of a lot that expires so many days from now; the lot is the last of it, or the first with byte 29 behind it."""
-    expiry = in_days(days)
-    return "]C101%s17%s10%s" % (gtin, expiry, lot) if is_last else "]C110%s%s01%s17%s" % (lot, GS, gtin, expiry)
-
-
-def logged():
-    """What the proxy logged, each as the name, the request and the status; a browser asks for an icon when it likes."""
-    with open(room + "/lotd.log", encoding="utf-8") as file:
-        return [re.search(r' (\S+) "(.*?) HTTP/[\d.]+" (\d+) ', line).groups() for line in file if "favicon" not in line]
-
-
-# ---- what is tried
 
 def has_all_words():
     """Every code that the documents name has words in the page, and the page has no other."""
@@ -221,9 +60,16 @@ def makes_items_and_bins():
         until("the kind", lambda: browser.page.switch_to.active_element.get_attribute("name") == "kind")
         enter()
         until_told("Bin " + bin)
-    until("the bin's label", lambda: every(".symbol rect"))
-    is_fit("bin")
-    is_printed("bin", [".symbol"], ["form", "nav", "header", "button"])
+    go("labels")
+    until("labels of the bins that were made", lambda: [it.text for it in every(".symbol figcaption")] == ["A-01", "A-02", "B-07"])
+    by_hand("c-01 c-03")
+    until("labels of a row of bins", lambda: [it.text for it in every(".symbol figcaption")][3:] == ["C-01", "C-02", "C-03"])
+    by_hand("C-03 C-01")
+    until_told("These are no bins", "refused")
+    is_fit("labels")
+    is_printed("labels", [".symbol"], ["form", "nav", "header", "button", "#strip"])
+    press("Empty it")
+    is_told("an empty sheet", [], every(".symbol"))
     passed("items and bins are made by keyboard alone; a small letter is made a capital, an EAN-13 fourteen digits")
 
 
@@ -240,14 +86,14 @@ def takes_goods_in():
             is_fit("receive")
         scan(bin)
         by_hand(str(qty))
-        until_told("Received %d of %s" % (qty, lot))
+        until_told("Received %d of %s (Oat drink)" % (qty, lot))
         is_told("the next line", str(number + 2), one("[name=line]").get_attribute("value"))
     for lot, qty in (("A/B%C?", 3), (".", 1), ("..", 2)):
         one("[name=label]").click()
         scan(label(lot, 200, is_last=True))
         scan("B-07")
         by_hand(str(qty))
-        until_told("Received %d of %s in" % (qty, lot))
+        until_told("Received %d of %s (Oat drink) in" % (qty, lot))
     wanted = {lot: qty for lot, _, _, qty, _ in came} | {"A/B%C?": 3, ".": 1, "..": 2}
     is_told("what came", wanted, {lot: it["bins"][0]["qty"] for lot, it in lots_of().items()})
     passed("seven receipts by scan; the separator as F8, as Ctrl ], as byte 29 typed and inserted, and none; lots A/B%C? and . and ..")
@@ -292,15 +138,6 @@ def refuses_in_words():
     passed("a label, a scan in the place of a number, a file's first fault with its row: refused in words")
 
 
-def receives(line, lot, days, bin, qty):
-    go("in")
-    one("[name=line]").click()
-    by_hand(str(line))
-    scan(label(lot, days))
-    scan(bin)
-    by_hand(str(qty))
-
-
 def tells_a_line_that_came():
     """The same line of the same delivery by another device would be answered as done, and add nothing."""
     receipt = json.dumps({"delivery": "D-1", "line": 50, "label": label("L2", 27), "bin": "A-01", "qty": 6})
@@ -332,7 +169,7 @@ def tells_a_line_that_came():
     until_answered()
     is_told("its own line is no other's", (1, 12), (len(set(Gate.posts)), lots_of()["L2"]["bins"][0]["qty"] - before[0]["qty"]))
     go("outbox")
-    is_told("and is told as done", True, "Received 6 of L2 in A-01 (D-1/52)" in one(".sent .done").text)
+    is_told("and is told as done", True, "Received 6 of L2 (Oat drink) in A-01 (D-1/52)" in one(".sent .done").text)
     passed("a line that another device received, also while this one had no network, is told and adds nothing; its own one stands once")
 
 
@@ -387,7 +224,7 @@ def picks():
     scan("B-07")
     is_fit("pick-chosen")
     by_hand("3")
-    until_told("Picked 3 of A/B%C? from B-07 for S-1")
+    until_told("Picked 3 of A/B%C? (Oat drink) from B-07 for S-1")
     is_told("it stands once", (3, []), (lots_of()[lot]["staged"], lots_of()[lot]["bins"]))
     scan(label("L3", 150))
     scan("A-01")
@@ -401,13 +238,18 @@ def picks():
     scan(label("L3", 150))
     scan("A-02")
     by_hand("1")
-    until_told("Put back 1 of L3 into A-02")
+    until_told("Put back 1 of L3 (Oat drink) into A-02")
     is_fit("put-back")
     press("Ship")
     is_fit("sure")
     press("Ship", "dialog")
     until_told("shipment 1")
     passed("a pick by scan, of a lot A/B%C? too; a wrong bin; put back; shipped; the pick list, printed")
+
+
+def can_be_done():
+    """The buttons of a lot that can be pressed, but for Print."""
+    return [it.text for it in every(".pair button") if it.is_enabled() and it.text != "Print"]
 
 
 def shows_lots():
@@ -420,9 +262,12 @@ def shows_lots():
         until("the lot " + lot, lambda: "Stock card: %d in the house" % qty in text("main"))
     go("lot/%s/L3" % OAT)
     until("the lot", lambda: "Stock card" in text("main"))
+    is_told("what can be done with a free lot", ["Hold", "Recall"], can_be_done())
     mean("Hold")
     until_told("Hold: L3 of Oat drink")
     until("its state", lambda: "HELD" in text(".lot"))
+    is_told("what can be done with a held one", ["Release", "Recall"], can_be_done())
+    is_told("its units", True, "blocked 5" in text(".lot") and "unpromised 0" in text(".lot"))
     mean("Release")
     until_told("Release: L3")
     until("its state", lambda: "HELD" not in text(".lot"))
@@ -430,9 +275,8 @@ def shows_lots():
     until_told("Recall: L3 of Oat drink")
     until("the notice", lambda: "Recall notice: 5 in bins, 3 shipped" in text("main") and "Corner Shop & <Sons>" in text("main"))
     is_fit("recalled")
-    is_printed("notice", [".lot", ".paper"], ["form", "nav", "header", ".pair"])
-    mean("Recall")
-    until_told("This lot is recalled already", "refused")
+    is_printed("notice", [".lot", "#title", "#paper"], ["form", "nav", "header", ".pair"])
+    is_told("what can still be done with it", [], can_be_done())
     go("item/" + OAT)
     until("the item", lambda: "Oat drink" in text("main"))
     by_hand("20")
@@ -470,7 +314,7 @@ def acts_once():
         if mode == "lost":
             is_fit("waiting")
             go("outbox")
-            until("what came", lambda: "502: lotd does not run, or is starting" in text("main"))
+            until("what came", lambda: "The server is away, or just starting (502)" in text("main"))
             is_fit("outbox")
         browser.page.refresh()
         Gate.mode = "pass"
@@ -500,14 +344,14 @@ def shows_again():
     go("")
     Gate.mode = "silent"
     run("location.hash = '#/item/%s'" % OAT)
-    until("what a screen says", lambda: "No answer yet" in text("main"))
+    until("what a screen says", lambda: "No answer yet" in text("#stale"))
     Gate.mode = "pass"
-    until("the screen", lambda: "Oat drink" in text("main") and "No answer yet" not in text("main"), 10)
+    until("the screen", lambda: "Oat drink" in text("main") and not text("#stale"), 10)
     Gate.mode = "503"
     run("location.hash = '#/item/%s'" % TEA)
-    until("what a screen says", lambda: "503 W90: lotd has no memory or no disk" in text("main"))
+    until("what a screen says", lambda: "The server has no memory or no disk" in text("#stale"))
     Gate.mode = "pass"
-    until("the screen", lambda: "Nothing is short" not in text("main") and "Short 2" in text("main"), 10)
+    until("the screen", lambda: "Nothing is short" not in text("main") and "Short " in text("main"), 10)
     passed("a screen whose server is silent or has no memory says so, and shows what it has as soon as there is an answer")
 
 
@@ -515,6 +359,7 @@ def outlasts_a_password():
     """Another password is no answer of lotd, though its status is 401; nor are two windows two acts."""
     before, Gate.posts[:] = in_second_bin(), []
     go("moves")
+    time.sleep(1)                                       # what the screen reads when it is opened has come
     nginx.write_users(room)
     scan(label("L2", 27))
     scan("A-01")
@@ -554,12 +399,12 @@ def goes_on_offline():
         by_hand("1")
         until("the sign", lambda: text("#sent") == "%d not answered yet, trying" % sent)
     run("location.hash = '#/item/%s'" % OAT)
-    until("what a screen says", lambda: "No connection" in text("main"))
+    until("what a screen says", lambda: "No connection" in browser.said("#stale"))
     is_fit("offline")
     browser.offline(False)
     until_answered()
     are_once("without network", before, 2)
-    until("the screen is there again", lambda: "Oat drink" in text("main") and "No connection" not in text("main"))
+    until("the screen is there again", lambda: "Oat drink" in text("main") and not browser.said("#stale"))
     passed("without network two acts are kept; back, both stand once, in their order")
 
 
@@ -641,43 +486,18 @@ def bars_names():
     passed("a name that may not recall is told so in words, and moves as the others")
 
 
-def shows_home():
-    go("")
-    is_fit("home")
-    by_hand("9")
-    until("the number of the menu", lambda: text("#title") == "An order")
-    key("Escape", None, "Escape", 27)
-    until("home", lambda: text("#title") == "Lot stock")
-    scan("]E0" + TEA[1:])
-    until("an item's EAN-13", lambda: '<b>x</b>&"' in text("main"))
-    is_told("as text", 0, len(every("main h2 b")))
-    for where in ("constructor", "lot/%", "lot/1/constructor", "order/__proto__"):
-        go(where)
-    go("")
-    passed("home: a number opens a screen, an EAN-13 the item, and its name of marks is shown as text; an address that is none")
-
-
-def fits_all_screens():
-    for where in ("", "in", "file", "pick", "pick/S-2", "moves", "counts", "adjustments", "lot", "lot/%s/L2" % OAT, "order", "order/S-2", "new",
-                  "item", "item/" + OAT, "items", "bins", "days", "outbox", "device"):
-        go(where)
-        until("it is read", lambda: "/" not in where or "Oat drink" in text("main"))
-        is_fit("screen-" + (where.replace("/", "-") or "home"))
-    passed("no screen is wider than 360 points, each target is large enough for a glove, and all have names for a screen reader")
-
-
 def counts_and_writes_off():
     go("counts")
     scan(label("L4", 90))
     scan("B-07")
     by_hand("3")
-    until_told("Counted 3 of L4 in B-07")
+    until_told("Counted 3 of L4 (Oat drink) in B-07")
     is_told("the change", True, "change -1" in text("#told"))
     go("adjustments")
     scan(label("L4", 90))
     scan("B-07")
     by_hand("-3")
-    until_told("Wrote off 3 of L4 in B-07")
+    until_told("Wrote off 3 of L4 (Oat drink) in B-07")
     is_told("none is left", [], lots_of()["L4"]["bins"])
     passed("a count and a write-off")
 
@@ -696,15 +516,19 @@ def opens_the_day():
     passed("the day is opened, an order cancelled")
 
 
-STEPS = [has_all_words, makes_items_and_bins, takes_goods_in, takes_the_set_character, refuses_in_words, tells_a_line_that_came, orders_short, picks, shows_lots,
-         acts_once, shows_again, outlasts_a_password, goes_on_offline, is_shut, is_shut_to_other_sites, bars_names, shows_home, fits_all_screens,
-         counts_and_writes_off, opens_the_day, has_all_words, outlasts_a_dead_battery]
+STEPS = [has_all_words, page_looks.signs_on, makes_items_and_bins, takes_goods_in, takes_the_set_character, refuses_in_words,
+         tells_a_line_that_came, orders_short, picks, shows_lots, page_looks.shows_long_names, page_looks.stands_still,
+         page_looks.opens_by_scans, page_looks.gives_an_order_back, page_looks.shows_the_state, page_lists.at_home,
+         page_lists.shows_open_orders, page_lists.shows_a_bin, page_lists.shows_what_expires, page_lists.finds_by_name, acts_once, shows_again, outlasts_a_password,
+         goes_on_offline, is_shut, is_shut_to_other_sites, bars_names, page_looks.shows_home, page_looks.fits_all_screens, counts_and_writes_off,
+         page_looks.gives_back, opens_the_day, page_lists.counts_from_the_business_day, has_all_words, outlasts_a_dead_battery]
 
 subprocess.run([lotd, "init", "--db", DB, "--day", DAY], check=True)
 started = None
 began = time.monotonic()
 try:
     house.up()
+    Gate.behind, Gate.kill = BACK, house.down
     for kind, port in ((Gate, GATE), (OtherSite, OTHER)):
         threading.Thread(target=Threads(("127.0.0.1", port), kind).serve_forever, daemon=True).start()
     started = nginx.proxy(*programs, room, TLS, GATE)

@@ -1,4 +1,4 @@
-"""lotd behind the proxy of `ops/nginx.conf`, with its ports and files elsewhere: TLS, names and passwords; a body in chunks
+"""lotd behind the proxy of `ops/nginx-lotd.conf`, with its ports and files elsewhere: TLS, names and passwords; a body in chunks
 and a slow one; lots whose names have a slash, a percent sign and a question mark; 300 requests by 32 clients at once; a
 server that ends again and again while they come, whose repeats act once; a backup taken between two runs, and restored.
 Needs the Rattle kit, nginx and openssl, and takes half a minute.

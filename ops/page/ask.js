@@ -29,7 +29,8 @@ function path(...parts) {
   return last === "." || last === ".." ? path("dots", last.length, ...parts.slice(0, -1)) : "/" + parts.map(encodeURIComponent).join("/");
 }
 
-async function get(...parts) {
+/** What lotd shows there: JSON as an object, a text as it is. */
+export async function get(...parts) {
   const { status, type, text } = await request(path(...parts));
   if (status === 200 && type === "text/plain") return text;
   let told = null;
@@ -77,6 +78,17 @@ export async function notice(gtin, lot) {
   const found = pattern => rest.map(line => pattern.exec(line)?.slice(1)).filter(Boolean);
   return { bins: found(/^BIN (\S+) (\d+)$/), shipments: found(/^SHIPMENT (\d+) (\S+) (\d+) (\S+) (.*)$/), inBins, shipped };
 }
+
+/** What a timer of the server left beside lotd, of the "day" or of the "copy"; null where nothing did. */
+export async function told(name) {
+  const { status, type, text } = await request(`/state/${name}.json`);
+  if (status === 404) return null;
+  if (status === 200 && type.startsWith("application/json")) return JSON.parse(text);
+  throw new NoAnswer(delay(status, text));
+}
+
+/** A lot with its item's name, where that was read before. */
+export const lotWords = (lot, gtin) => [lot, setting("name/" + gtin) && `(${setting("name/" + gtin)})`].filter(Boolean).join(" ");
 
 /** The name of an item, which never changes; "" while it is not known. */
 export async function nameOf(gtin) {

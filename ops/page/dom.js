@@ -14,6 +14,9 @@ export const tag = (name, attributes = {}, ...children) => filled(document.creat
 export const svg = (name, attributes = {}, ...children) =>
   filled(document.createElementNS("http://www.w3.org/2000/svg", name), attributes, children);
 
+/** Words of which no name is broken at its hyphen: `from A-01` has A-01 on one line. */
+export const whole = words => words.split(/(?<= )/).map(it => (it.includes("-") && it.length < 22 ? tag("bdi", {}, it.trimEnd()) : it)).flatMap(it => (it instanceof Node ? [it, " "] : it));
+
 /** A button that does something and sends no form. */
 export const button = (words, onclick, attributes = {}) => tag("button", { type: "button", ...attributes, onclick }, words);
 

@@ -1,5 +1,12 @@
 // Pictures where people would rather look than read. Widths are set by script: the page's policy takes no style in HTML.
 import { svg, tag } from "./dom.js";
+import { daysTo } from "./day.js";
+
+/** A number as it is read: 1,000,000. */
+export const grouped = number => Number(number).toLocaleString("en");
+
+/** So many of something: 1 lot, 1,000 lots. */
+export const counted = (number, word) => `${grouped(number)} ${word}${number === 1 ? "" : "s"}`;
 
 /** All units of a list. */
 export const sum = (list, name = "qty") => list.reduce((total, it) => total + it[name], 0);
@@ -13,22 +20,20 @@ function part(share, kind) {
 /** Units as parts of one bar: [["staged", 5], ["short", 2]]. */
 export function bar(pairs, whole) {
   const some = pairs.filter(([, qty]) => qty > 0), rest = whole - some.reduce((total, [, qty]) => total + qty, 0);
-  return tag("div", { class: "bar", role: "img", "aria-label": some.map(([kind, qty]) => `${kind} ${qty}`).join(", ") || "none" },
+  return tag("div", { class: "bar", role: "img", "aria-label": some.map(([kind, qty]) => `${kind} ${grouped(qty)}`).join(", ") || "none" },
     some.map(([kind, qty]) => part(qty, kind)), rest > 0 && part(rest, "rest"));
 }
 
 /** The parts of a bar in words, each with its colour. */
 export const legend = pairs => tag("p", { class: "legend" }, pairs.map(([kind, qty]) =>
-  tag("span", { class: qty ? "" : "nil" }, tag("i", { class: kind }), `${kind} `, tag("b", {}, qty))));
+  tag("span", { class: qty ? "" : "nil" }, tag("i", { class: kind }), `${kind} `, tag("b", {}, grouped(qty)))));
 
-const day = text => new Date(text + "T00:00:00");
-const daysLeft = expiry => Math.round((day(expiry) - day(new Date().toLocaleDateString("sv"))) / 86400000);
-
-/** An expiry as a bar of half a year, by the clock of this device, with a mark at the days that must be left; whether the lot
- *  may be sold is `status`, by the books. */
+/** An expiry as a bar of half a year from the business day on, with a mark at the days that must be left. */
 export function expiryBar(expiry, status = "FREE", least = 0) {
   if (!expiry) return tag("p", {}, "No unit of it ever came");
-  const left = daysLeft(expiry), most = 180, isSoon = left < Math.max(least, 14) || status === "SHORTDATED";
+  const left = daysTo(expiry), most = 180;
+  if (left === undefined) return tag("div", { class: "until" }, tag("p", {}, tag("b", {}, expiry)));
+  const isSoon = left < Math.max(least, 14) || status === "SHORTDATED";
   const kind = left < 0 || status === "EXPIRED" ? "gone" : isSoon ? "soon" : "far";
   const words = left < 0 ? `${-left} days over` : left === 0 ? "last day" : left === 1 ? "1 day left" : `${left} days left`;
   const line = svg("svg", { class: "expiry", viewBox: "0 0 180 10", preserveAspectRatio: "none", "aria-hidden": "true" },
@@ -38,11 +43,10 @@ export function expiryBar(expiry, status = "FREE", least = 0) {
   return tag("div", { class: "until" }, tag("p", {}, tag("b", {}, expiry), tag("span", { class: kind }, words)), line);
 }
 
-/** Each bin with a bar of its units. */
-export function binBars(bins) {
-  const most = Math.max(1, ...bins.map(it => it.qty));
+/** Each bin with a bar of its units, beside the most that a bar on the screen has. */
+export function binBars(bins, most = Math.max(1, ...bins.map(it => it.qty))) {
   return tag("ul", { class: "bins" }, bins.map(({ bin, qty }) =>
-    tag("li", {}, tag("code", {}, bin), bar([["units", qty]], most), tag("b", {}, qty))));
+    tag("li", {}, tag("code", {}, bin), bar([["units", qty]], most), tag("b", {}, grouped(qty)))));
 }
 
 export const chip = status => tag("span", { class: "chip " + status.toLowerCase() }, status === "SHORTDATED" ? "TOO FEW DAYS" : status);

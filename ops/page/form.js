@@ -6,15 +6,16 @@ import { nameOf } from "./ask.js";
 import { clear, refuse } from "./told.js";
 import { setting } from "./kept.js";
 import { wasScanned } from "./scan.js";
+import { hits } from "./hits.js";
 
 const matches = rule => text => (rule.test(text) ? text : undefined);
 const number = (low, high, none) => text => (/^-?\d{1,9}$/.test(text) && text >= low && text <= high && +text !== none ? +text : undefined);
-const KEY = { read: matches(/^[A-Z0-9-]{1,20}$/), hint: "1 to 20 of A-Z 0-9 -", isUpper: true };
+const KEY = { read: matches(/^[A-Z0-9-]{1,20}$/), ask: "scan or type it", hint: "1 to 20 of A-Z 0-9 -", isUpper: true };
 const NAME = { read: matches(/^(?! )[ -~]{1,40}(?<! )$/), hint: "1 to 40 plain characters" };
 const COUNT = { read: number(1, 1000000), hint: "1 to 1,000,000", mode: "numeric", isByHand: true };
 
 const kinds = {
-  gtin: { label: "Item", hint: "scan, or 14 digits", read: gtin, mode: "numeric" },
+  gtin: { label: "Item", ask: "scan, or a part of its name", hint: "scan, 14 digits, or a part of its name", read: gtin },
   lot: { label: "Lot", hint: "scan its label", read: matches(/^[!"%-?A-Z_a-z]{1,20}$/) },
   label: { label: "Label", hint: "scan it" },
   bin: { label: "Bin", ...KEY }, from: { label: "From bin", ...KEY }, to: { label: "To bin", ...KEY },
@@ -26,46 +27,71 @@ const kinds = {
   change: { label: "Change", hint: "below 0: written off", read: number(-1000000, 1000000, 0), isByHand: true },
   days: { label: "Least days", hint: "0 to 3,650", read: number(0, 3650), mode: "numeric", isByHand: true },
   day: { label: "New day", read: matches(/^2[01]\d\d-\d\d-\d\d$/), hint: "later than the last one", type: "date" },
+  bins: { label: "Bins", ask: "A-01, or A-01 A-24", hint: "one, or the first and the last: A-01 A-24" },
+  sign: { label: "Sign", read: matches(/^[A-Z0-9]{2,5}$/), hint: "2 to 5 letters or digits", isUpper: true, mode: "text", isTyped: true },
   kind: { label: "Kind", choices: { STORE: "STORE, to sell", HOLD: "HOLD, set aside" } },
 };
 
+/** The rows that a refusal speaks of, the likeliest first; else the last row. */
+const MEANT = { U01: ["gtin", "label"], U02: ["bin", "to", "from"], U03: ["lot"], S06: ["bin", "to"], Q01: ["qty"], Q02: ["qty"], Q03: ["qty"],
+  Q04: ["to"], W05: ["label"], X05: ["label"], S01: ["label", "lot"], S02: ["label", "lot"], S03: ["label", "lot"], S11: ["lot"],
+  K01: ["line"], X01: ["gtin"], X02: ["bin"], X03: ["order"], S10: ["day"] };
+
 let rows = 0;
-function row(name, value = "") {
+function row(name, value = "", isNew = false) {
   const kind = kinds[name], id = "row" + ++rows;
   const told = tag("small", { id: id + "told" }, kind.hint ?? "");
   const field = kind.choices
     ? tag("select", { id, name }, Object.entries(kind.choices).map(([value, words]) => tag("option", { value }, words)))
     : tag("input", {
-      id, name, type: kind.type ?? "text", inputmode: kind.isByHand ? kind.mode : setting("keys") || kind.mode,
-      autocomplete: "off", autocapitalize: "off", spellcheck: "false", placeholder: kind.hint, "aria-describedby": id + "told" });
-  if (value !== "") field.value = value;
+      id, name, type: kind.type ?? "text", inputmode: kind.isByHand || kind.isTyped ? kind.mode : setting("keys") || kind.mode,
+      autocomplete: "off", autocapitalize: "off", spellcheck: "false", placeholder: kind.ask ?? kind.hint, "aria-describedby": id + "told" });
   field.addEventListener("focus", () => field.select?.());
   field.addEventListener("dblclick", () => { field.inputMode = kind.mode ?? "text"; });
   field.addEventListener("input", () => {
-    if (kind.isUpper && field.value !== field.value.toUpperCase()) field.value = field.value.toUpperCase();
+    it.put(kind.isUpper && field.value !== field.value.toUpperCase() ? field.value.toUpperCase() : field.value);
     it.fault("");
   });
-  const it = { name, kind, field, told, node: tag("div", { class: "row" }, tag("label", { for: id }, kind.label), field, told) };
+  const keeps = name === "gtin" || name === "label";
+  const it = { name, kind, field, told, node: tag("div", { class: keeps ? "row keeps" : "row" }, tag("label", { for: id }, kind.label), field, told) };
+  /** Sets the value, in letters that are small enough for all of it. */
+  it.put = text => {
+    if (field.value !== text) field.value = text;
+    field.classList.toggle("long", text.length > 13);
+    field.classList.toggle("longer", text.length > 16);
+  };
   it.fault = words => {
     field.setAttribute("aria-invalid", String(Boolean(words)));
     it.node.classList.toggle("fault", Boolean(words));
     if (words) told.textContent = words;
   };
-  it.say = words => { told.textContent = words || kind.hint || ""; it.node.classList.toggle("said", Boolean(words)); };
+  it.say = words => { told.textContent = words || (keeps ? "" : kind.hint ?? ""); it.node.classList.toggle("said", Boolean(words)); };
   it.read = () => (kind.choices || !kind.read ? field.value : kind.read(bare(field.value)));
   /** The value, or nothing, and the row says why. */
   it.check = () => {
     const value = it.read();
     if (value === undefined || value === "") return it.fault(field.value ? "Not so: " + kind.hint : kind.hint ?? "");
-    if (!kind.choices) field.value = value;
+    if (!kind.choices) it.put(String(value));
     return value;
   };
+  /** Items of the name that is typed. */
+  if (name === "gtin" && !isNew) it.hits = hits(field, (gtin, words) => {
+    it.put(gtin);
+    it.fault("");
+    it.say(words);
+    field.dispatchEvent(new Event("taken", { bubbles: true }));
+  });
+  if (it.hits) it.node.append(it.hits.node);
+  if (value !== "") it.put(value);
+  if (keeps) it.say("");
   return it;
 }
 
-/** A form of rows by name. `done(values)` is called once all hold; `label(text, parts)` has a label that the rows do not take. */
-export function form({ names, preset = {}, button, done, label, more }) {
-  const all = Object.fromEntries(names.map(name => [name, row(name, preset[name])]));
+/** A form of rows by name. `done(values)` is called once all hold, and gives the number of the entry that it made; `label(text,
+ *  parts)` has a label that the rows do not take; `back(values)` is told that the form has again what was refused. */
+export function form({ names, preset = {}, button, done, label, more, back, isNew }) {
+  let sent = null, isBack = false;               // what was sent last, as it was entered; whether that stands there again
+  const all = Object.fromEntries(names.map(name => [name, row(name, preset[name], isNew)]));
   const list = Object.values(all), go = tag("button", { class: "go" }, button);
   const showItem = async () => { if (all.gtin?.read()) all.gtin.say(await nameOf(all.gtin.read()) || "not known"); };
   const node = tag("form", {
@@ -73,13 +99,16 @@ export function form({ names, preset = {}, button, done, label, more }) {
     onlabel(event) {
       const found = parts(event.detail);
       clear();
+      if (isBack) for (const each of list) if (!["delivery", "line", "label"].includes(each.name)) it.set({ [each.name]: "" });
+      isBack = false;
       if (label) return label(event.detail, found, it);
       if (!all.gtin || !found.gtin) return refuse("That is not asked here");
-      all.gtin.field.value = found.gtin;
-      if (all.lot && found.lot) all.lot.field.value = found.lot;
+      all.gtin.put(found.gtin);
+      if (all.lot && found.lot) all.lot.put(found.lot);
       showItem();
       it.next();
     },
+    ontaken() { it.next(); },
     onkeydown(event) {
       const at = list.find(each => each.field === event.target);
       if (event.key !== "Enter" || !at) return;
@@ -89,6 +118,7 @@ export function form({ names, preset = {}, button, done, label, more }) {
         at.fault(`That was a scan: ${at.kind.label} is typed`);
         return refuse(`A scan is no ${at.kind.label.toLowerCase()}`);
       }
+      if (at.read() === undefined && at.hits?.enter()) return;
       if (at.check() === undefined) return refuse(`${at.kind.label}: ${at.kind.hint}`);
       if (at.name === "gtin") showItem();
       const next = list[list.indexOf(at) + 1];
@@ -102,13 +132,30 @@ export function form({ names, preset = {}, button, done, label, more }) {
       wrong?.field.focus();
       if (wrong) return refuse(`${wrong.kind.label}: ${wrong.kind.hint}`);
       go.disabled = true;
-      try { await done(values, it); } finally { go.disabled = false; }
+      const entered = Object.fromEntries(list.map(each => [each.name, each.field.value]));
+      isBack = false;
+      try { sent = { id: await done(values, it), entered }; } finally { go.disabled = false; }
     },
   }, list.map(each => each.node), more, go);
   const it = { node, rows: all, go,
     /** Goes to the first row that is empty. */
     next() { (list.find(each => each.field.value === "")?.field ?? list.at(-1).field).focus(); },
-    set(values) { for (const [name, value] of Object.entries(values)) { all[name].field.value = value; all[name].fault(""); } },
+    set(values) { for (const [name, value] of Object.entries(values)) { all[name].put(value); all[name].fault(""); } },
+    /** Where this is the refusal of what was sent last and nothing was entered since, all stands there again, at the row that
+     *  is meant. A label that is scanned then begins anew, unless the label was at fault. */
+    undone({ id, answer: { code } }) {
+      if (sent?.id !== id || code === "AGAIN" || !node.isConnected) return;      // what came already is not entered again
+      const { entered } = sent, isNew = each => each.field.value !== "" && !each.kind.choices && !["delivery", "line", "day"].includes(each.name);
+      sent = null;
+      if (list.some(isNew)) return;
+      it.set(entered);
+      back?.(entered);
+      if (all.gtin) showItem();
+      isBack = code !== "W05" && code !== "X05";
+      const meant = MEANT[code]?.map(name => all[name]).find(Boolean) ?? list.at(-1);
+      meant.field.focus();
+      meant.field.select?.();
+    },
     clear(...which) { for (const name of which) { it.set({ [name]: "" }); all[name].say(""); } it.next(); },
   };
   if (preset.gtin) showItem();

@@ -1,58 +1,84 @@
-// The frame: which screen is shown, the menu, the outbox's sign in the head, and what is told when an answer comes.
-import { tag } from "./dom.js";
+// The frame: which screen is shown, the menu, the head, and what is told when an answer comes.
+import { tag, whole } from "./dom.js";
 import { begin as beginScans } from "./scan.js";
 import { begin as beginOutbox, entries, lastTry, outbox, seen } from "./outbox.js";
 import { more, refusal } from "./words.js";
-import { clear, done, refuse, wait } from "./told.js";
+import { begin as beginTold, clear, done, refuse, wait } from "./told.js";
 import { NoAnswer, Refused } from "./ask.js";
-import { setting } from "./kept.js";
+import { isSigned, setting } from "./kept.js";
 import { file, goodsIn } from "./screens/goods_in.js";
 import { pick } from "./screens/pick.js";
 import { lot } from "./screens/lot.js";
 import { newOrder, order } from "./screens/order.js";
 import { item } from "./screens/item.js";
-import { doing, find, home } from "./screens/simple.js";
+import { doing, find } from "./screens/simple.js";
+import { anything, home, named } from "./screens/home.js";
+import { choose } from "./screens/open.js";
+import { expires } from "./screens/expiring.js";
+import { books } from "./lists.js";
+import { told } from "./day.js";
+import { bin, labels } from "./screens/bin.js";
 import { device, sent } from "./screens/device.js";
+import { sign, state } from "./screens/state.js";
 
 const MENU = [
   ["Goods in", ["in", "Receive"], ["file", "Goods-in file"]],
   ["Picking", ["pick", "Pick an order"]],
-  ["Bins", ["moves", "Move"], ["counts", "Count"], ["adjustments", "Write on or off"]],
-  ["Quality", ["lot", "A lot: hold, recall"], ["item", "An item, its lots"]],
-  ["Desk", ["order", "An order"], ["new", "New order"], ["items", "Make an item"], ["bins", "Make a bin"], ["days", "Open the day"]],
-  ["This device", ["outbox", "What was sent"], ["device", "Scanner and screen"]],
+  ["Bins", ["bin", "A bin"], ["moves", "Move"], ["counts", "Count"], ["adjustments", "Write on or off"]],
+  ["Quality", ["lot", "A lot: hold, recall"], ["item", "An item, its lots"], ["expiring", "What expires"]],
+  ["Desk", ["order", "Open orders"], ["new", "New order"], ["items", "Make an item"], ["bins", "Make a bin"], ["days", "Open the day"]],
+  ["The house", ["state", "State"], ["outbox", "What was sent"], ["device", "Scanner and screen"]],
 ];
 const numbers = MENU.flatMap(([, ...links]) => links.map(([name]) => name));
 
 const screens = {
   __proto__: null,
-  "": () => home(numbers), in: goodsIn, file, outbox: sent, device, new: newOrder,
-  pick: id => (id ? pick(id) : find("pick", "order", "Pick an order")),
-  order: id => (id ? order(id) : find("order", "order", "An order")),
+  "": () => home(numbers), in: goodsIn, file, outbox: sent, device, state, sign: () => sign(() => { location.hash = "#/"; }), new: newOrder, labels, bin,
+  "items named": named, expiring: expires,
+  pick: id => (id ? pick(id) : choose("pick", "Pick an order", "To pick")),
+  order: id => (id ? order(id) : choose("order", "Open orders", "All")),
   item: gtin => (gtin ? item(gtin) : find("item", "gtin", "An item")),
   lot: (gtin, name) => (name ? lot(gtin, name) : find("lot", "lot", "A lot")),
 };
-const main = document.getElementById("main"), RETRY = 3000;
-let now = null, later = 0, slow = 0;
+/** What a person sees who has not signed. */
+const UNSIGNED = ["", "sign", "state", "outbox", "device"];
+const [main, title, notFresh, who, day] = ["main", "title", "stale", "who", "day"].map(id => document.getElementById(id)), RETRY = 3000, FOLLOW = 5000;
+let now = null, later = 0, slow = 0, touched = 0;
 
 function setLook() {
   const want = setting("look", "auto"), isDark = want === "dark" || (want === "auto" && matchMedia("(prefers-color-scheme: dark)").matches);
   document.documentElement.dataset.look = isDark ? "dark" : "light";
 }
 
-const stale = (...words) => tag("p", { class: "stale", role: "alert" }, words);
+/** What stands in the place of a screen that lotd refused to show: why, and something else to scan. */
+function unknown({ message, code }) {
+  const it = anything();
+  return tag("div", {}, tag("p", { class: "unknown", role: "alert" }, message, " ", tag("code", {}, code)), now.other, it.node);
+}
 
-/** Has the screen read again what it shows; where no answer of lotd comes, the screen says so and tries again. */
+/** While a list is looked at, it is read again where acts came since; not while a finger or a scanner is at work. */
+async function follow() {
+  if (document.hidden || !now?.follows || Date.now() - touched < 2000) return;
+  const before = told.act;
+  await books().catch(() => null);
+  if (told.act !== before) refresh();
+}
+
+/** Has the screen read again what it shows; where no answer of lotd comes, the strip says so and it is tried again. */
 async function refresh() {
   const mine = now;
   clearTimeout(later);
-  const fault = await Promise.resolve(mine.refresh?.()).then(() => null, it => it);
+  const fault = await (mine.readsBooks ? mine.refresh() : books().then(() => mine.refresh?.())).then(() => null, it => it);
   if (mine !== now) return;
-  main.querySelectorAll(".stale").forEach(it => it.remove());
-  if (!fault) return;
-  main.prepend(stale(fault.message, fault.code && tag("code", {}, fault.code)));
+  day.textContent = told.day;
+  const isRefused = fault instanceof Refused;
+  notFresh.textContent = fault && !isRefused ? fault.message : "";
+  if (isRefused) {
+    main.replaceChildren(unknown(fault));
+    focus();
+  } else if (mine.node.parentNode !== main) main.replaceChildren(mine.node);
   if (fault instanceof NoAnswer) later = setTimeout(refresh, RETRY);
-  else if (!(fault instanceof Refused)) console.error(fault);
+  else if (fault && !isRefused) console.error(fault);
 }
 
 /** The names in the page's address; none where it cannot be read. */
@@ -60,18 +86,30 @@ function names() {
   try { return location.hash.slice(2).split("/").map(decodeURIComponent); } catch { return [""]; }
 }
 
+function screen(name, values) {
+  if (!UNSIGNED.includes(name) && !isSigned()) return sign(show);
+  return screens[name]?.(...values) ?? doing(name, values) ?? home(numbers);
+}
+
+function focus() {
+  const fields = [...main.querySelectorAll("form input:not([type=file]):not([type=checkbox])")];
+  (fields.find(it => it.value === "") ?? fields[0] ?? main).focus({ preventScroll: true });
+}
+
 function show() {
   const [name, ...values] = names();
-  now = screens[name]?.(...values) ?? doing(name) ?? home(numbers);
+  now = screen(name, values);
   document.title = `${now.title} - Lot stock`;
-  document.getElementById("title").textContent = now.title;
-  document.body.classList.toggle("home", name === "");
+  title.replaceChildren(...whole(now.title));
+  title.className = now.title.split(" ").some(it => it.length > 14) ? "long" : "";
+  notFresh.textContent = "";
+  who.textContent = setting("sign") || "Sign";
+  document.body.dataset.screen = name;
   for (const link of document.querySelectorAll("nav a")) link.setAttribute("aria-current", link.hash.slice(2) === name ? "page" : "false");
   clear();
   main.replaceChildren(now.node);
   scrollTo(0, 0);
-  const fields = [...main.querySelectorAll("input:not([type=file]):not([type=checkbox])")];
-  (fields.find(it => it.value === "") ?? fields[0] ?? main).focus({ preventScroll: true });
+  focus();
   now.begin?.();
   refresh();
 }
@@ -97,7 +135,10 @@ outbox.addEventListener("final", ({ detail: entry }) => {
   else {
     const { code, what, then } = refusal(entry.answer);
     refuse(`${what}. ${then}`, `Not done: ${entry.words}${entry.answer.row ? rowOf(entry) : ""}`, code);
-    if (entry.state === "refused" && Date.now() - entry.made < 5000) seen(entry);   // the person stands before it
+    if (entry.state === "refused" && Date.now() - entry.made < 5000) {              // the person stands before it
+      now?.form?.undone(entry);
+      seen(entry);
+    }
   }
   refresh();
 });
@@ -112,11 +153,16 @@ document.getElementById("menu").append(...MENU.map(([role, ...links]) => tag("se
   links.map(([name, words]) => tag("a", { href: "#/" + name }, tag("kbd", {}, String(numbers.indexOf(name) + 1)), words)))));
 setLook();
 matchMedia("(prefers-color-scheme: dark)").addEventListener("change", setLook);
-for (const [event, act] of Object.entries({ look: setLook, hashchange: show, online: refresh })) addEventListener(event, act);
+const stamp = () => { document.getElementById("paper").textContent = `Printed ${new Date().toLocaleString("sv")}`; };
+for (const [event, act] of Object.entries({ look: setLook, hashchange: show, online: refresh, beforeprint: stamp })) addEventListener(event, act);
+stamp();
+for (const event of ["pointerdown", "keydown", "wheel"]) addEventListener(event, () => { touched = Date.now(); }, { capture: true, passive: true });
+setInterval(follow, FOLLOW);
 addEventListener("keydown", event => { if (event.key === "Escape" && !document.querySelector("dialog[open]")) location.hash = "#/"; });
 addEventListener("unhandledrejection", ({ reason }) => refuse("This went wrong on the device: look at Sent", String(reason?.message ?? reason)));
 beginScans(main);
+beginTold();
 show();
 const late = setTimeout(() => refuse("The store of this browser does not open", "Nothing can be sent before. Load the page again"), 10000);
-const noStore = () => main.replaceChildren(stale("This browser keeps nothing (a private window?). Do not work with it: what is sent could be lost."));
+const noStore = () => main.replaceChildren(tag("p", { class: "unknown", role: "alert" }, "This browser keeps nothing (a private window?). Do not work with it: what is sent could be lost."));
 beginOutbox().catch(noStore).finally(() => clearTimeout(late));

@@ -14,17 +14,19 @@ const tries = new Map();                       // of an entry, by this tab: how 
 const random = count =>
   Array.from(crypto.getRandomValues(new Uint8Array(count)), byte => "ABCDEFGHIJKLMNOPQRSTUVWXYZ234567"[byte % 32]).join("");
 
-/** A key that nobody used: this device's name and 65 random bits. */
+/** A key that nobody used: the sign of who works here and 65 random bits. */
 function newKey() {
-  if (!kept.setting("device")) kept.set("device", "S" + random(4));
-  return `${kept.setting("device")}-${random(13)}`;
+  kept.signOn(kept.setting("sign") || "PAGE");
+  return `${kept.setting("sign")}-${random(13)}`;
 }
 
-/** Keeps a request and begins to send it. `body` is a text or a file's bytes; `line` is that of a receipt: { gtin, lot, line }. */
+/** Keeps a request and begins to send it. `body` is a text or a file's bytes; `line` is that of a receipt: { gtin, lot, line }.
+ *  Gives the number of its entry. */
 export async function send(path, body, words, line) {
-  await kept.keep({ path, body, words, line, made: Date.now(), state: "waiting" });
+  const id = await kept.keep({ path, body, words, line, made: Date.now(), state: "waiting" });
   await reread();
   sendAll();
+  return id;
 }
 
 /** Sends an act under a new key. */

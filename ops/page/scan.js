@@ -4,7 +4,7 @@ import { GS, isLabel } from "./label.js";
 import { setting } from "./kept.js";
 
 const GAP = 400, TWICE = 200;  // ms after which a key begins something new; within which a second Enter is none
-let typed = "", before = "", last = 0, slowest = 0, ended = 0, isFast = false;
+let typed = "", before = "", last = 0, slowest = 0, ended = 0, isFast = false, isAtOnce = false;
 
 function key(field, text, now) {
   if (!typed || now - last > GAP) { typed = ""; before = field.value; slowest = 0; } else slowest = Math.max(slowest, now - last);
@@ -21,6 +21,8 @@ const isWhole = field => typed.startsWith("]") || field.value.replaceAll(GS, "")
 
 /** Whether what the last Enter ended came faster than fingers are. */
 export const wasScanned = () => isFast;
+/** Whether its Enter came as fast too: so one or two characters are a scan. */
+export const wasAtOnce = () => isAtOnce;
 
 export function begin(main) {
   document.addEventListener("beforeinput", event => {
@@ -41,6 +43,7 @@ export function begin(main) {
       const scanned = isWhole(field) ? labelIn(typed) : undefined, label = scanned ?? labelIn(field.value);
       if (isAgain || label) { event.preventDefault(); event.stopPropagation(); }             // CR LF is one end
       isFast = typed.length > 2 && slowest < 40;
+      isAtOnce = typed !== "" && slowest < 40 && now - last < 40;
       ended = now;
       typed = "";
       if (isAgain || !label) return;

@@ -1,4 +1,5 @@
 // Plain words for every code of README.md, LABELS.md and FILES.md, and for what is no answer of lotd: what it means, what to do.
+import { grouped } from "./draw.js";
 
 const codes = {
   K01: ["This was used for something else before", "If it is meant, enter it again. A delivery line that came already takes the next line number"],
@@ -23,9 +24,9 @@ const codes = {
   N01: ["The lot is not recalled, so it has no notice", ""],
   W01: ["The request was cut: its head", "Call the office"], W02: ["The request was cut: its length", "Call the office"],
   W03: ["The request was no JSON", "Call the office"], W04: ["A field breaks its rule", "Look at what was entered"],
-  W05: ["It cannot be read", ""], W06: ["lotd does not know this request", "The page is newer than lotd. Call the office"],
-  W07: ["lotd does not take this request so", "Call the office"], W08: ["It is too large", "A file has at most 1,000 rows and 262,144 bytes"],
-  W90: ["lotd has no memory or no disk", "It is sent again. If this stays, call the office"],
+  W05: ["It cannot be read", ""], W06: ["The server does not know this request", "The page is newer than the server. Call the office"],
+  W07: ["The server does not take this request so", "Call the office"], W08: ["It is too large", "A file has at most 1,000 rows and 262,144 bytes"],
+  W90: ["The server has no memory or no disk", "It is tried again. If this stays, call the office"],
   W91: ["The books were changed by another program", "Stop. Call the office"],
   L01: ["The label begins with a prefix that is not GS1-128, DataMatrix or QR", "Scan the GS1 symbol"],
   L02: ["The label has a part other than item, lot and expiry", "Scan another symbol, or set the scanner's separator"],
@@ -45,16 +46,15 @@ const codes = {
 };
 
 const proxy = {
-  401: "The name and the password are asked for. Load the page again", 403: "The proxy refuses it. Open the page by its own address",
-  413: "The proxy finds it too large", 502: "lotd does not run, or is starting", 504: "lotd has not answered the proxy yet",
+  401: "The name or the password is another one now. Load the page again", 403: "This is not the page's own address. Open it by that",
+  413: "It is too large for the server", 502: "The server is away, or just starting", 504: "The server is busy or just starting",
 };
 
 /** What an answer says that is not lotd's last word. */
 export function delay(status, text) {
   const code = /"code":"(W9\d)"/.exec(text)?.[1] ?? "";
-  return `${status} ${code}: ${codes[code]?.join(". ") ?? proxy[status] ?? "No answer of lotd"}`.replace(" :", ":");
+  return `${codes[code]?.join(". ") ?? proxy[status] ?? "What came is no answer of the server"} (${[status, code].filter(Boolean).join(" ")})`;
 }
-
 
 /** What lotd answered, in words: `{"code":"U02","row":3}` is "Row 3: This bin is not known" and what to do. */
 export function refusal({ code, cause, row, act }) {
@@ -65,9 +65,9 @@ export function refusal({ code, cause, row, act }) {
 /** What more an answer of 200 says. */
 export function more(answer) {
   return [
-    answer.act && `act ${answer.act}`, answer.short > 0 && `${answer.short} short`,
-    answer.change != null && `change ${answer.change}`, answer.shipment && `shipment ${answer.shipment}`,
-    answer.returned > 0 && `${answer.returned} units are now in RETURNS: carry them there`,
-    answer.accepted != null && `${answer.accepted} rows taken in, ${answer.repeated} were there before`,
+    answer.act && `act ${answer.act}`, answer.short > 0 && `${grouped(answer.short)} short`,
+    answer.change != null && `change ${grouped(answer.change)}`, answer.shipment && `shipment ${answer.shipment}`,
+    answer.returned > 0 && `${grouped(answer.returned)} units are now in RETURNS: carry them there`,
+    answer.accepted != null && `${grouped(answer.accepted)} rows taken in, ${grouped(answer.repeated)} were there before`,
   ].filter(Boolean).join(" · ");
 }

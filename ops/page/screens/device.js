@@ -1,5 +1,5 @@
 // This device: what it sent, its scanner, its look.
-import { button, isMeant, tag } from "../dom.js";
+import { button, isMeant, tag, whole } from "../dom.js";
 import { entries, giveUp, lastTry, seen, sendAll } from "../outbox.js";
 import { more, refusal } from "../words.js";
 import { GS, parts } from "../label.js";
@@ -11,7 +11,7 @@ const UNSURE = "It may have been done: nobody knows. Look at the order or the lo
 /** The outbox: what waits, what was refused and not seen, what was done. */
 export function sent() {
   const node = tag("section");
-  const line = (it, ...rest) => tag("li", { class: it.state }, tag("p", {}, tag("b", {}, it.words), tag("small", {}, time(it.made))), rest);
+  const line = (it, ...rest) => tag("li", { class: it.state }, tag("p", {}, tag("b", {}, whole(it.words)), tag("small", {}, time(it.made))), rest);
   const list = (title, lines) => [tag("h2", {}, title), tag("ul", { class: "sent" }, lines)];
   function changed() {
     const of = (...states) => entries.filter(it => states.includes(it.state));
@@ -55,7 +55,6 @@ export function device() {
       shown.textContent = `${visible(detail)}\n\nGTIN   ${gtin}\nLOT    ${lot}\nEXPIRY ${expiry}${unread ? "\nNOT READ " + visible(unread) : ""}`;
     },
   }, Object.keys(CHOICES).map(choice),
-  tag("div", { class: "row" }, tag("label", { for: "try" }, "Try it"), tag("input", { id: "try", autocomplete: "off", inputmode: "none" }), shown),
-  tag("p", {}, "Keys of this device begin with ", tag("code", {}, setting("device") || "(none yet)"), ": so the history tells which device did what."));
-  return { title: "This device", node };
+  tag("div", { class: "row" }, tag("label", { for: "try" }, "Try it"), tag("input", { id: "try", autocomplete: "off", inputmode: "none" }), shown));
+  return { title: "Scanner and screen", node };
 }

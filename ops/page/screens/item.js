@@ -3,27 +3,40 @@ import { tag } from "../dom.js";
 import { act } from "../outbox.js";
 import { form } from "../form.js";
 import { shortages, stock } from "../ask.js";
-import { binBars, chip, expiryBar, sum } from "../draw.js";
+import { setting } from "../kept.js";
+import { hasBins, isStore } from "../lists.js";
+import { binBars, chip, counted, expiryBar, grouped, sum } from "../draw.js";
+
+/** What may still be promised: units of free lots in bins to sell from that no order has. */
+async function unpromised(lots) {
+  const free = lots.filter(it => it.status === "FREE"), bins = new Set(free.flatMap(it => it.bins.map(({ bin }) => bin)));
+  const stores = new Map(await Promise.all([...bins].map(async bin => [bin, await isStore(bin)])));
+  return free.reduce((total, it) => total + sum(it.bins.filter(({ bin }) => stores.get(bin))) - it.reserved, 0);
+}
 
 export function item(gtin) {
   const view = tag("section"), shorts = tag("section");
   const least = form({ names: ["days"], button: "Set the least days", async done({ days }) {
-    await act("leasts", { gtin, days }, `Lots of ${gtin} must have ${days} days left`);
+    await act("leasts", { gtin, days }, `Lots of ${setting("name/" + gtin) || gtin} must have ${grouped(days)} days left`);
     least.clear("days");
   } });
-  const card = it => tag("li", {},
+  const card = most => it => tag("li", { class: it.status === "FREE" ? "" : "blocked" },
     tag("h3", {}, tag("a", { href: `#/lot/${gtin}/${encodeURIComponent(it.lot)}` }, tag("code", {}, it.lot)), chip(it.status)),
-    expiryBar(it.expiry, it.status), binBars(it.bins), tag("p", { class: "legend" }, `reserved ${it.reserved} · staged ${it.staged}`));
-  const short = it => tag("li", {}, tag("a", { href: `#/order/${it.order}` }, it.order), tag("span", {}, it.customer), tag("b", {}, it.qty));
+    expiryBar(it.expiry, it.status), binBars(it.bins, most),
+    tag("p", { class: "legend" }, `reserved ${grouped(it.reserved)} · staged ${grouped(it.staged)}`));
+  const short = it => tag("li", {}, tag("a", { href: `#/order/${it.order}` }, it.order), tag("span", {}, it.customer), tag("b", {}, grouped(it.qty)));
 
   async function refresh() {
     const [all, wanted] = await Promise.all([stock(gtin), shortages(gtin)]);
     const there = all.lots.filter(it => it.bins.length || it.staged), total = sum(there, "staged") + sum(there.flatMap(it => it.bins));
+    const gone = all.lots.length - there.length, most = Math.max(1, ...there.flatMap(it => it.bins).map(it => it.qty));
+    const free = await unpromised(there), isKnown = await hasBins();
     view.replaceChildren(tag("h2", {}, all.name, " ", tag("small", {}, gtin)),
-      tag("p", {}, `${total} units in ${there.length} lots; ${all.lots.length - there.length} lots are gone`),
-      tag("ul", { class: "lines" }, there.map(card)));
-    shorts.replaceChildren(tag("h2", {}, wanted.total ? `Short ${wanted.total}` : "Nothing is short"),
+      tag("p", { class: "promise" }, !isKnown && "at most ", tag("b", {}, grouped(free)), " may still be promised", !isKnown && ", less what lies in bins that are set aside"),
+      tag("p", {}, `${grouped(total)} units in ${counted(there.length, "lot")}`, gone > 0 && `; ${counted(gone, "lot")} ${gone === 1 ? "is" : "are"} gone`),
+      tag("ul", { class: "lines" }, there.map(card(most))));
+    shorts.replaceChildren(tag("h2", {}, wanted.total ? `Short ${grouped(wanted.total)}` : "Nothing is short"),
       tag("ul", { class: "plain" }, wanted.shorts.map(short)));
   }
-  return { title: "An item", refresh, node: tag("div", { class: "two" }, view, tag("div", {}, shorts, least.node)) };
+  return { title: "An item", refresh, follows: true, node: tag("div", { class: "two" }, view, tag("div", {}, shorts, least.node)) };
 }

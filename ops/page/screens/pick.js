@@ -2,9 +2,10 @@
 import { button, isMeant, tag } from "../dom.js";
 import { act } from "../outbox.js";
 import { form } from "../form.js";
-import { nameOf, order, pickList } from "../ask.js";
-import { bar, expiryBar, legend, orderHead, sum, symbol } from "../draw.js";
+import { lotWords, nameOf, order, pickList } from "../ask.js";
+import { bar, expiryBar, grouped, legend, orderHead, sum, symbol } from "../draw.js";
 import { refuse } from "../told.js";
+import { asBin } from "./bin.js";
 
 export function pick(id) {
   let isBack = false, takes = [], staged = [], chosen = null;
@@ -15,23 +16,29 @@ export function pick(id) {
     async done({ lot, bin, qty }) {
       if (chosen?.lot !== lot) choose(lot);
       if (!chosen) return;
-      const words = isBack ? `Put back ${qty} of ${lot} into ${bin} for ${id}` : `Picked ${qty} of ${lot} from ${bin} for ${id}`;
-      await act(isBack ? "unpicks" : "picks", { order: id, gtin: chosen.gtin, lot, bin, qty }, words);
+      const what = lotWords(lot, chosen.gtin), words = isBack ? `Put back ${grouped(qty)} of ${what} into ${bin} for ${id}` : `Picked ${grouped(qty)} of ${what} from ${bin} for ${id}`;
+      const entry = await act(isBack ? "unpicks" : "picks", { order: id, gtin: chosen.gtin, lot, bin, qty }, words);
       chosen = null;
       it.clear("lot", "bin", "qty");
+      return entry;
     },
   });
   it.rows.lot.field.addEventListener("change", ({ target: { value } }) => { if (value && value !== chosen?.lot) choose(value, undefined, false); });
   const turn = button("Put back", () => {
     isBack = !isBack;
+    it.node.hidden = false;
     [it.go.textContent, turn.textContent] = isBack ? ["Put back", "Pick again"] : ["Pick", "Put back"];
     chosen = null;
     draw();
     it.clear("lot", "bin", "qty");
   });
   const ship = button("Ship", async () => {
-    if (await isMeant(`Ship ${id}: ${sum(staged)} units that are staged?`, "Ship")) await act("shipments", { order: id }, `Shipped ${id}`);
+    if (await isMeant(`Ship ${id}: ${grouped(sum(staged))} units that are staged?`, "Ship")) await act("shipments", { order: id }, `Shipped ${id}`);
   });
+
+  /** Once an order is out of the way the next one is scanned here. */
+  const next = form({ names: ["order"], button: "Pick the next order", done: ({ order }) => { location.hash = "#/pick/" + order; } });
+  next.node.hidden = true;
 
   function choose(lot, gtin, isMoving = true) {
     const fit = (isBack ? staged : takes).filter(each => each.lot === lot && (!gtin || each.gtin === gtin));
@@ -48,12 +55,13 @@ export function pick(id) {
 
   function draw() {
     const all = isBack ? staged : takes, top = chosen ?? all[0];
-    const from = ({ bin, qty }) => tag("span", {}, tag("code", {}, bin), tag("small", {}, ` has ${qty}`));
+    const from = ({ bin, qty }) => tag("span", {}, tag("code", {}, bin), tag("small", {}, ` has ${grouped(qty)}`));
     const card = take => button([
-      tag("div", { class: "where" }, isBack ? "staged" : take.from.map(from), tag("b", {}, String(take.qty))),
+      tag("div", { class: "where" }, isBack ? "staged" : take.from.map(from), tag("b", {}, grouped(take.qty))),
       tag("div", {}, tag("strong", {}, take.name || take.gtin), " ", tag("code", {}, take.lot)),
       take.expiry && expiryBar(take.expiry, "FREE", take.least),
     ], () => choose(take.lot, take.gtin), { class: "take", "aria-pressed": String(take === chosen) });
+    first.classList.toggle("first", Boolean(top));
     first.replaceChildren(top ? card(top) : tag("p", { class: "none" }, isBack ? "Nothing is staged" : "Nothing to take"));
     list.replaceChildren(...all.filter(take => take !== top).map(card));
   }
@@ -67,9 +75,13 @@ export function pick(id) {
     if (chosen) chosen = (isBack ? staged : takes).find(each => each.lot === chosen.lot && each.gtin === chosen.gtin) ?? null;
     const pairs = [["shipped", sum(whole.lines, "shipped")], ["staged", sum(staged)], ["reserved", sum(takes)], ["short", sum(whole.lines, "short")]];
     ship.disabled = !staged.length;
+    ship.classList.toggle("go", staged.length > 0 && !takes.length);      // the next thing to do
+    it.node.hidden = whole.state !== "OPEN" || (!takes.length && !isBack);
+    next.node.hidden = !it.node.hidden || staged.length > 0;
+    if (!next.node.hidden) next.rows.order.field.focus();
     head.replaceChildren(orderHead(whole), bar(pairs, sum(whole.lines, "ordered")), legend(pairs), tag("div", { class: "paper" }, symbol(id)));
     draw();
   }
   const buttons = tag("div", { class: "pair" }, turn, ship, button("Print", () => print(), { class: "desk" }));
-  return { title: `Pick ${id}`, refresh, node: tag("div", { class: "two" }, tag("div", {}, head, first, it.node, buttons), list) };
+  return { title: `Pick ${id}`, form: it, refresh, other: asBin(id), node: tag("div", { class: "two" }, tag("div", {}, head, first, it.node, buttons, next.node), list) };
 }
