@@ -2,12 +2,14 @@
 
 It calls the kit's compiler itself: `rt check` proves one library after another and has each crate read the proofs of
 those below, and `rt ci` proves each with one job, while processors stand idle. Here the crate with the longest line of
-others behind it goes first, by the seconds of build_seconds.txt, with the processors that no other crate is ready to
-use, and each reads what those below promise. The gate is `rt ci`, and no run of this.
+others behind it goes first, by the seconds of build_seconds.txt, and has all processors; the next ones take what it leaves.
+Each reads what those below promise. The gate is `rt ci`, and no run of this.
 
-The word `seconds` behind the kit's folder writes that table anew, from what the crates took that are made.
+Words behind the kit's folder: `llvm` has LLVM build lotd in place of Rattle's own compiler, which takes some three minutes
+more and gives a program that is somewhat faster; `seconds` writes that table anew, from what the crates took that are made.
 """
 import concurrent.futures
+import contextlib
 import functools
 import hashlib
 import os
@@ -15,13 +17,15 @@ import shutil
 import subprocess
 import sys
 
-KIT = sys.argv[1]
+KIT, *WORDS = sys.argv[1:]
 TOP = "lotd"
+BACKEND = "llvm" if "llvm" in WORDS else "rattle"
 OUT = os.path.abspath(f"crates/{TOP}/out")
 # What is made of each crate, with a stamp of what it was made from. `rt` reads nothing here, and keeps it.
 MADE = f"{OUT}/rlib"
 PROCESSORS = len(os.sched_getaffinity(0))
-AT_ONCE = int(os.environ.get("RT_JOBS") or PROCESSORS)
+# How many crates are proved side by side.
+AT_ONCE = int(os.environ.get("RT_JOBS") or 4)
 # The processor time of each crate's proof, with one job.
 TABLE = "build_seconds.txt"
 
@@ -62,16 +66,16 @@ def files_of(crate):
 def stamp(crate):
     """A sum of all that the crate is made from, and of how."""
     said = [text_of(f"{KIT}/KIT-ID"), text_of("build.py"), CALLS[crate], [stamp(it) for it in below(crate)]]
-    said += [(file, text_of(file)) for file in files_of(crate)]
+    said += [(file, text_of(file)) for file in files_of(crate)] + [BACKEND] * (crate == TOP)
     return hashlib.sha256(repr(said).encode()).hexdigest()
 
 
 def made(crate):
-    return f"{MADE}/{crate}" if crate == TOP else f"{MADE}/{crate}.rlib"
+    return f"{MADE}/{crate}.{BACKEND}" if crate == TOP else f"{MADE}/{crate}.rlib"
 
 
 def is_made(crate):
-    kept = f"{MADE}/{crate}.stamp"
+    kept = f"{made(crate)}.stamp"
     return os.path.exists(kept) and os.path.exists(made(crate)) and text_of(kept) == stamp(crate)
 
 
@@ -89,14 +93,19 @@ def rlib(library):
     return f"{MADE if library in CALLS else KIT + '/rlibs'}/{library}.rlib"
 
 
-def prove(crate, jobs):
-    """Proves a crate and builds it; returns whether it is proved, and what was said."""
+def prove(crate, rank):
+    """Proves a crate and builds it, behind so many that run and have more behind them; returns whether it is proved, and
+    what was said."""
     is_top = crate == TOP
     to = f"{made(crate)}.o" if is_top else made(crate)
-    words = [f"{KIT}/bin/rattle", "build", "--crate-name", crate, f"src/{'main' if is_top else 'lib'}.rt"]
-    words += ["--jobs", str(jobs), "-o", to]
+    # What is half written bears no stamp, not even an earlier one.
+    with contextlib.suppress(FileNotFoundError):
+        os.remove(f"{made(crate)}.stamp")
+    words = ["nice", "-n", str(5 * rank)] if rank else []
+    words += [f"{KIT}/bin/rattle", "build", "--crate-name", crate, f"src/{'main' if is_top else 'lib'}.rt"]
+    words += ["--jobs", str(max(1, PROCESSORS - rank)), "-o", to]
     words += ["--antt-project", f"{KIT}/rattle/logic/antt-project.json", "--logic-built", f"{KIT}/logic_built"]
-    words += ["--toolchain", f"{KIT}/toolchain", "--backend", "llvm"] if is_top else ["--statements"]
+    words += ["--toolchain", f"{KIT}/toolchain", "--backend", BACKEND] if is_top else ["--statements"]
     for library in CALLS[crate]:
         words += ["--extern", f"{library}={rlib(library)}"]
     words += ["-L", f"dependency={KIT}/rlibs", "-L", f"dependency={MADE}"]
@@ -106,14 +115,14 @@ def prove(crate, jobs):
         is_proved, said, _ = run([*link, "-o", made(crate), to, f"{KIT}/c/libos_c.a", f"{KIT}/c/liblibc_c.a"])
     if is_proved:
         for kept, text in (("seconds", f"{seconds:.0f}"), ("stamp", stamp(crate))):
-            with open(f"{MADE}/{crate}.{kept}", "w", encoding="utf-8") as file:
+            with open(f"{made(crate)}.{kept}", "w", encoding="utf-8") as file:
                 file.write(text)
     return is_proved, said
 
 
 def write_seconds():
     """Writes the table of seconds, by what the crates took when they were made."""
-    lines = [f"{crate} {text_of(f'{MADE}/{crate}.seconds')}\n" for crate in CRATES]
+    lines = [f"{crate} {text_of(f'{made(crate)}.seconds')}\n" for crate in CRATES]
     with open(TABLE, "w", encoding="utf-8") as file:
         file.writelines(["# `python3 build.py KIT seconds` writes this: the processor time of each crate's proof\n", *lines])
 
@@ -128,22 +137,18 @@ def behind(crate):
 
 
 def prove_all(left):
-    """Proves these crates side by side, each after those that it stands on, those with most behind them first. A crate
-    has one job, and one more for each processor that no other crate is ready to use."""
-    left, running, free = sorted(left, key=behind, reverse=True), {}, PROCESSORS
+    """Proves these crates side by side, each after those that it stands on, those with most behind them first. The first
+    of those that run has a job for each processor; each of the others has one less than the one before it, and gives way."""
+    left, running = sorted(left, key=behind, reverse=True), {}
     with concurrent.futures.ThreadPoolExecutor(AT_ONCE) as pool:
         while left or running:
-            waited = {*left, *(crate for crate, _ in running.values())}
-            ready = [it for it in left if waited.isdisjoint(below(it))][: AT_ONCE - len(running)]
-            while ready:
-                crate, *ready = ready
-                jobs = max(1, free - len(ready))
-                running[pool.submit(prove, crate, jobs)] = crate, jobs
+            waited = {*left, *running.values()}
+            for crate in [it for it in left if waited.isdisjoint(below(it))][: AT_ONCE - len(running)]:
+                rank = sum(behind(it) > behind(crate) for it in running.values())
+                running[pool.submit(prove, crate, rank)] = crate
                 left.remove(crate)
-                free -= jobs
             for done in concurrent.futures.wait(running, return_when=concurrent.futures.FIRST_COMPLETED).done:
-                (crate, jobs), (is_proved, said) = running.pop(done), done.result()
-                free += jobs
+                crate, (is_proved, said) = running.pop(done), done.result()
                 if not is_proved:
                     print(f"{said[-6000:]}\n{crate} is not proved", file=sys.stderr)
                     return False
@@ -157,5 +162,5 @@ if not prove_all([it for it in CRATES if not is_made(it)]):
 # A program that runs is not written over.
 shutil.copy2(made(TOP), f"{OUT}/{TOP}.new")
 os.replace(f"{OUT}/{TOP}.new", f"{OUT}/{TOP}")
-if sys.argv[2:] == ["seconds"]:
+if "seconds" in WORDS:
     write_seconds()

@@ -12,6 +12,7 @@ import pty
 import random
 import re
 import resource
+import shutil
 import sqlite3
 import subprocess
 import sys
@@ -419,23 +420,13 @@ def read_back(db, new, schema=4, shuffled=False):
 
 
 def old_files():
-    """The files of books of older schemas that the tests keep: a name, the bytes, and the count of their acts."""
-    with open(os.path.join(server.TOP, "crates/file_tests/src/old_bytes.rt")) as file:
-        text = file.read()
-    parts = {name: (int(size.replace("_", "")), re.findall(r'"([0-9a-f]+)"', lines))
-             for name, size, lines in re.findall(r"static (\w+): OldFile = OldFile \{\s*size: ([\d_]+),\s*parts: &\[(.*?)\],\s*\}", text, re.S)}
-    for name, (size, lines) in parts.items():
-        if name.endswith("_REST"):
-            continue
-        data = bytearray(size)
-        for line in lines + parts.get(name + "_REST", (0, []))[1]:
-            part = bytes.fromhex(line)
-            at = int.from_bytes(part[:2], "big")
-            data[at:at + len(part) - 2] = part[2:]
-        db = path_of(name.lower())
-        with open(db, "wb") as file:
-            file.write(data)
-        yield name.lower().replace("_", " "), db
+    """The files of books of older schemas that the scenarios keep: a name, and a copy of the file."""
+    data = os.path.join(server.TOP, "crates/scenarios/data")
+    for name in sorted(os.listdir(data)):
+        if name.endswith(".db"):
+            db = path_of(name.removesuffix(".db"))
+            shutil.copyfile(os.path.join(data, name), db)
+            yield name.removesuffix(".db").replace("_", " "), db
 
 
 # The history

@@ -22,10 +22,10 @@ def listed(crate):
 
 
 # Each test, and the program that runs it.
-PROGRAM_OF = dict(listed("wire_tests") + listed("file_tests") + listed("apply_tests") + listed("acts_tests"))
+PROGRAM_OF = dict(listed("host_tests") + listed("acts_tests"))
 
 # What is printed where a call had no memory.
-NO_MEMORY = ['< no memory', '< L90', '< G90', '< 503 {"code":"W90"}']
+NO_MEMORY = ['< no memory', '< 503 {"code":"W90"}']
 # What is printed where one of the requests of a call had none: the call is not made again.
 ONE_HAD_NONE = '< 503 {"code":"W90"} among the answers'
 

@@ -1,7 +1,6 @@
 #!/bin/sh
-# Every request for memory refused. Tests of file_tests do a day's work over books in memory, and calls on books alone;
-# tests of wire_tests make calls that need no books; one of apply_tests takes in a history; one of acts_tests opens a file
-# of the acts and brings it up. Each is run once for each request for memory that is made within a call, which is then
+# Every request for memory refused. Tests of host_tests do a day's work over books in memory, take in a history, and make calls
+# on books alone; one of acts_tests opens a file of the acts and brings it up. Each is run once for each request for memory that is made within a call, which is then
 # refused. It compares each answer and the rows of each table itself: where the call had no memory everything is as before,
 # and the same call made again is answered as ever; else its answer and the rows are the ones of ever. Here the lines that
 # it prints are compared with those of an undisturbed run, so that nothing else is told, before the call or after it.
@@ -16,7 +15,7 @@ cd "$(dirname "$0")"
 room=$(mktemp -d)
 trap 'rm -rf "$room"' EXIT
 
-for crate in wire_tests file_tests apply_tests acts_tests; do
+for crate in host_tests acts_tests; do
     echo "> build $crate, and run its tests without memory"
     (cd "../crates/$crate" && rt test -- without_memory >"$room/$crate.txt") || {
         tail -n 20 "$room/$crate.txt"
