@@ -10,7 +10,7 @@ use Rattle.values.specs.Values.{is_gtin, is_lot_text, is_name}
 use Rattle.values.specs.declared.lot.LotId.{LotId}
 use Rattle.commands.specs.Tables.{Tables}
 use Rattle.commands.specs.declared.rows.StockRow.{StockRow}
-use Rattle.goods_tables.specs.declared.texts.TheConstants.{ADD_STOCK, CHANGE_STOCK, STOCK_OF, STOCK_OF_LOT, DROP_STOCK}
+use Rattle.goods_tables.specs.declared.texts.TheConstants.{ADD_STOCK, CHANGE_STOCK, STOCK_OF, STOCK_OF_LOT, STOCK_IN, DROP_STOCK}
 use Rattle.table_words.specs.Found.{AreRows}
 use Rattle.table_words.specs.Cells.{is_the_text}
 use Rattle.table_words.specs.Stored.{is_stored_row, stored_row}
@@ -74,6 +74,21 @@ stock_of_lot = record {
 
 abbrev pub AreStockOfLot : LotId → Tables → List StockRow → Type 0
 AreStockOfLot lot t rows = AreRows {K = StockKey} same_stock stock_key (λ k. same_lot_id lot k.0) (λ k. t.stock k.0 k.1) rows
+
+-- those in a bin
+abbrev pub stock_in : Query StockRow StockKey (List ℕ)
+stock_in = record {
+  may = λ by. true;
+  text = STOCK_IN.now;
+  params = λ bin. Text bin ∷ [];
+  tests = same 3 0 ∷ [];
+  order = by_rowid;
+  wanted = λ bin s. bytes_eq bin s.bin;
+  stored = λ bin r. is_the_text bin (column r 3);
+}
+
+abbrev pub AreStockIn : List ℕ → Tables → List StockRow → Type 0
+AreStockIn bin t rows = AreRows {K = StockKey} same_stock stock_key (λ k. bytes_eq bin k.1) (λ k. t.stock k.0 k.1) rows
 
 -- ---- what holds of them
 
@@ -161,4 +176,23 @@ stock_of_lot_laws = record {
   at_stored = λ lot r int. ap₂ ◌&&◌ (equals_text (column r 1) lot.gtin) (and_true _ ∙ equals_text (column r 2) lot.lot);
   ordered = λ db ready lot rows a. in_order db.trees (stock_of_lot.params lot) stock_tree stock_of_lot.tests stock.shown rows (rows_of stock stock_laws db ready).0 a;
   finds = λ db ready lot xs are. found_by_key stock stock_laws (λ k. same_lot_id lot k.0) db ready xs are;
+}
+
+stock_in_is : QueryIs stock stock_in
+unfolding understood everything
+stock_in_is rest = (refl, refl, (refl, refl))
+
+stock_in_at : (bin : List ℕ) (r : Row) → is_stored_row stock_mapping r ≡ true → passes (stock_in.params bin) stock_in.tests r ≡ bytes_eq bin (bytes (column r 3))
+stock_in_at bin r h =
+    let p0 = and_parts _ _ h in
+    let p1 = and_parts _ _ p0.1 in
+    and_true _ ∙ same_word is_name (column r 3) (Text bin) bin (and_parts _ _ p1.1).0 refl
+
+pub stock_in_laws : IsSought stock stock_in AreStockIn
+stock_in_laws = record {
+  is = stock_in_is;
+  at = stock_in_at;
+  at_stored = λ bin r int. and_true _ ∙ equals_text (column r 3) bin;
+  ordered = λ db ready bin rows a. in_order db.trees (stock_in.params bin) stock_tree stock_in.tests stock.shown rows (rows_of stock stock_laws db ready).0 a;
+  finds = λ db ready bin xs are. found_by_key stock stock_laws (λ k. bytes_eq bin k.1) db ready xs are;
 }

@@ -1,6 +1,6 @@
 //! The table `stock`.
 
-use crate::texts::{ADD_STOCK, CHANGE_STOCK, DROP_STOCK, STOCK_OF, STOCK_OF_LOT};
+use crate::texts::{ADD_STOCK, CHANGE_STOCK, DROP_STOCK, STOCK_IN, STOCK_OF, STOCK_OF_LOT};
 use commands::StockRow;
 use commands::limits::UNITS_MAX;
 use keyed_rows::mapped::Mapped;
@@ -115,5 +115,22 @@ impl SoughtBy<LotId> for Stock {
 
     fn asking_text() -> &'static str {
         STOCK_OF_LOT
+    }
+}
+
+impl SoughtBy<Name> for Stock {
+    ghost use Rattle.std.specs.Prelude.{refl};
+    ghost use Rattle.goods_tables.specs.Stock.{stock_in, AreStockIn, stock_in_laws};
+
+    ghost asks = { stock_in };
+
+    ghost answers = { AreStockIn };
+
+    ghost asked = { record { few = refl; fits = λ by may. refl; cells = λ by. refl } };
+
+    ghost asks_laws = { stock_in_laws };
+
+    fn asking_text() -> &'static str {
+        STOCK_IN
     }
 }

@@ -62,11 +62,14 @@ pub(crate) const STOCK_OF: &str =
 pub(crate) const STOCK_OF_LOT: &str =
     "SELECT gtin, lot, bin, qty FROM stock WHERE gtin = ?1 AND lot = ?2 ORDER BY rowid";
 
+pub(crate) const STOCK_IN: &str =
+    "SELECT gtin, lot, bin, qty FROM stock WHERE bin = ?1 ORDER BY rowid";
+
 pub(crate) const BINS_OF_LOT: &str =
     "SELECT bin, qty FROM stock WHERE gtin = ?1 AND lot = ?2 ORDER BY bin";
 
 /// All of them. A connection keeps the plans of its last 64 texts, so the tables together have at most 60.
-pub const TEXTS: [&str; 26] = [
+pub const TEXTS: [&str; 27] = [
     ADD_BIN,
     BINS_OF,
     ALL_BINS,
@@ -92,5 +95,6 @@ pub const TEXTS: [&str; 26] = [
     ADD_STOCK,
     STOCK_OF,
     STOCK_OF_LOT,
+    STOCK_IN,
     BINS_OF_LOT,
 ];

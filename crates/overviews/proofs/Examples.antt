@@ -1,16 +1,18 @@
 -- What the lists show of the worked histories.
 use Rattle.std.specs.Prelude.{◌≡◌, ℕ, false, List, [], ◌∷◌, codes, refl, pos, Some, None, Ok, Err}
+use Rattle.commands.specs.declared.command.BinKind.TheVariants.{Store, Hold as HoldBin}
 use Rattle.commands.specs.declared.command.Command.TheVariants.{Item, Urgent, Cancel, OpenDay, Ship, Recall, Least}
-use Rattle.commands.specs.declared.refusal.Refusal.TheVariants.{UnknownItem, UnknownLot, UnknownOrder}
+use Rattle.commands.specs.declared.refusal.Refusal.TheVariants.{UnknownBin, UnknownItem, UnknownLot, UnknownOrder}
 use Rattle.commands.specs.declared.rows.ItemRow.{ItemRow}
 use Rattle.commands.specs.declared.rows.OrderClass.TheVariants as class
 use Rattle.commands.specs.declared.views.LotStatus.TheVariants.{Free, Expired, Recalled}
 use Rattle.overviews.specs.declared.lists.OpenOrder.{OpenOrder}
 use Rattle.overviews.specs.declared.lists.ItemLot.{ItemLot}
+use Rattle.overviews.specs.declared.lists.BinLot.{BinLot}
 use Rattle.overviews.specs.declared.lists.NamedItem.{NamedItem}
 use Rattle.machine.specs.Acts.{Act}
-use Rattle.machine.proofs.examples.ExampleHistories.{may_4, may_10, may_31, june_30, with_two_orders, with_early_lot, with_picks, OATS, RYE, A1, S1, S2, L0, L2, keyed, lot_of}
-use Rattle.overviews.specs.Shown.{books_shown, open_orders_shown, item_names_shown, expiring_shown}
+use Rattle.machine.proofs.examples.ExampleHistories.{may_4, may_10, may_31, june_30, with_two_orders, with_early_lot, with_picks, OATS, RYE, A1, A2, Q1, S1, S2, L0, L1, L2, keyed, lot_of, receive, move}
+use Rattle.overviews.specs.Shown.{books_shown, open_orders_shown, item_names_shown, expiring_shown, bin_shown}
 
 abbrev S3 : List ℕ
 S3 = codes "S-3"
@@ -164,3 +166,74 @@ a_lot_that_has_expired_is_listed = refl
 a_recalled_lot_says_so : expiring_shown may_4 (keyed (codes "K-R") (Recall L0) ∷ with_early_lot) may_10 None
     ≡ Ok (record { act = 11; lots = record { item = oats; lot = record { bins = record { bin = A1; qty = 5 } ∷ []; expiry = may_10; lot = codes "L0"; reserved = 0; staged = 0; status = Recalled } } ∷ []; more = false })
 a_recalled_lot_says_so = refl
+
+-- Lots in a bin
+
+abbrev early_in_bin : BinLot
+early_in_bin = record { item = oats; lot = codes "L0"; expiry = may_10; qty = 5; status = Free }
+
+abbrev next_in_bin : BinLot
+next_in_bin = record { item = oats; lot = codes "L2"; expiry = may_31; qty = 10; status = Free }
+
+abbrev last_in_bin : BinLot
+last_in_bin = record { item = oats; lot = codes "L1"; expiry = june_30; qty = 10; status = Free }
+
+lots_in_a_bin_stand_by_expiry : bin_shown may_4 with_early_lot A1 None
+    ≡ Ok (record { act = 10; bin = A1; kind = Store; lots = early_in_bin ∷ next_in_bin ∷ last_in_bin ∷ []; more = false })
+lots_in_a_bin_stand_by_expiry = refl
+
+those_behind_a_lot_in_a_bin : bin_shown may_4 with_early_lot A1 (Some L2) ≡ Ok (record { act = 10; bin = A1; kind = Store; lots = last_in_bin ∷ []; more = false })
+those_behind_a_lot_in_a_bin = refl
+
+-- rye bread has the smaller GTIN, so its lot stands first, though it came last and expires last
+abbrev with_rye : List Act
+with_rye = keyed (codes "K-Y") (receive (lot_of RYE (codes "R1")) june_30 A1 3) ∷ with_early_lot
+
+abbrev rye_in_bin : BinLot
+rye_in_bin = record { item = record { gtin = RYE; name = codes "Rye bread" }; lot = codes "R1"; expiry = june_30; qty = 3; status = Free }
+
+lots_in_a_bin_stand_by_item : bin_shown may_4 with_rye A1 None
+    ≡ Ok (record { act = 11; bin = A1; kind = Store; lots = rye_in_bin ∷ early_in_bin ∷ next_in_bin ∷ last_in_bin ∷ []; more = false })
+lots_in_a_bin_stand_by_item = refl
+
+behind_an_item_are_those_of_the_next : bin_shown may_4 with_rye A1 (Some (lot_of RYE (codes "R1")))
+    ≡ Ok (record { act = 11; bin = A1; kind = Store; lots = early_in_bin ∷ next_in_bin ∷ last_in_bin ∷ []; more = false })
+behind_an_item_are_those_of_the_next = refl
+
+-- a lot lies in two bins, each shows what it has of it
+abbrev moved : List Act
+moved = keyed (codes "K-V") (move L2 A1 A2 4) ∷ with_early_lot
+
+a_bin_shows_its_own_units : bin_shown may_4 moved A1 None
+    ≡ Ok (record { act = 11; bin = A1; kind = Store; lots = early_in_bin ∷ record { item = oats; lot = codes "L2"; expiry = may_31; qty = 6; status = Free } ∷ last_in_bin ∷ []; more = false })
+a_bin_shows_its_own_units = refl
+
+and_the_other_bin_the_others : bin_shown may_4 moved A2 None
+    ≡ Ok (record { act = 11; bin = A2; kind = Store; lots = record { item = oats; lot = codes "L2"; expiry = may_31; qty = 4; status = Free } ∷ []; more = false })
+and_the_other_bin_the_others = refl
+
+an_empty_bin : bin_shown may_4 with_early_lot Q1 None ≡ Ok (record { act = 10; bin = Q1; kind = HoldBin; lots = []; more = false })
+an_empty_bin = refl
+
+-- what is on a stage is in no bin; one who saw the lot last goes on behind it all the same
+behind_a_lot_that_is_gone : bin_shown may_4 with_picks A1 (Some L0)
+    ≡ Ok (record { act = 12; bin = A1; kind = Store; lots = record { item = oats; lot = codes "L2"; expiry = may_31; qty = 3; status = Free } ∷ last_in_bin ∷ []; more = false })
+behind_a_lot_that_is_gone = refl
+
+what_a_recall_brings_back_is_in_returns : bin_shown may_4 (keyed (codes "K-R") (Recall L2) ∷ with_picks) (codes "RETURNS") None
+    ≡ Ok (record { act = 13; bin = codes "RETURNS"; kind = HoldBin; lots = record { item = oats; lot = codes "L2"; expiry = may_31; qty = 7; status = Recalled } ∷ []; more = false })
+what_a_recall_brings_back_is_in_returns = refl
+
+a_recalled_lot_in_a_bin_says_so : bin_shown may_4 (keyed (codes "K-R") (Recall L1) ∷ with_early_lot) A1 (Some L2)
+    ≡ Ok (record { act = 11; bin = A1; kind = Store; lots = record { item = oats; lot = codes "L1"; expiry = june_30; qty = 10; status = Recalled } ∷ []; more = false })
+a_recalled_lot_in_a_bin_says_so = refl
+
+a_bin_that_is_not_known_is_refused : bin_shown may_4 with_early_lot (codes "B-99") None ≡ Err UnknownBin
+a_bin_that_is_not_known_is_refused = refl
+
+-- also where the lot is not known either
+the_bin_is_judged_first : bin_shown may_4 with_early_lot (codes "B-99") (Some (lot_of OATS (codes "L9"))) ≡ Err UnknownBin
+the_bin_is_judged_first = refl
+
+behind_a_lot_that_never_came_there_is_nothing : bin_shown may_4 with_early_lot A1 (Some (lot_of OATS (codes "L9"))) ≡ Err UnknownLot
+behind_a_lot_that_never_came_there_is_nothing = refl

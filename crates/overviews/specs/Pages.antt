@@ -1,11 +1,14 @@
--- Lists of which one answer shows a page: the open orders, the items, the lots that expire.
-use Rattle.std.specs.Prelude.{ℕ, ◌==◌, Bool, true, false, not, ◌&&◌, nat_lt, if◌then◌else◌, List, [], ◌++◌, length, map, filter, reverse, take, Option, Some, None, ℤ, int_lt}
+-- Lists of which one answer shows a page: the open orders, the items, the lots that expire, the lots in a bin.
+use Rattle.std.specs.Prelude.{ℕ, ◌==◌, Bool, true, false, not, ◌&&◌, ◌||◌, nat_lt, if◌then◌else◌, List, [], ◌++◌, length, map, filter, reverse, take, Option, Some, None, ℤ, int_lt}
 use Rattle.commands.specs.Lists.{total, in_order}
+use Rattle.commands.specs.declared.command.NewBin.{NewBin}
 use Rattle.commands.specs.declared.command.NewItem.{NewItem}
 use Rattle.commands.specs.declared.command.OrderLine.{OrderLine}
 use Rattle.overviews.specs.declared.lists.TheConstants.{PAGE_MAX, NAMES_MAX}
 use Rattle.commands.specs.declared.rows.ItemRow.{ItemRow}
 use Rattle.commands.specs.declared.rows.OrderClass.TheVariants.{Normal, Urgent}
+use Rattle.overviews.specs.declared.lists.BinLot.{BinLot}
+use Rattle.overviews.specs.declared.lists.BinView.{BinView}
 use Rattle.overviews.specs.declared.lists.ExpiringView.{ExpiringView}
 use Rattle.overviews.specs.declared.lists.ItemLot.{ItemLot}
 use Rattle.overviews.specs.declared.lists.ItemNamesView.{ItemNamesView}
@@ -15,9 +18,9 @@ use Rattle.overviews.specs.declared.lists.OpenOrdersView.{OpenOrdersView}
 use Rattle.plan.specs.Overlap.{reserved_for}
 use Rattle.machine.specs.Acts.{Act}
 use Rattle.machine.specs.Standing.{KnownLot, Placed, item_named, items, least_days, lots, orders}
-use Rattle.machine.specs.Planning.{booking_of, goes_before, is_normal, is_open, is_urgent, item_postings, plan, shipped_of, short_of, staged}
+use Rattle.machine.specs.Planning.{booking_of, goes_before, in_bin, is_normal, is_open, is_urgent, item_postings, plan, shipped_of, short_of, staged}
 use Rattle.machine.specs.Cards.{lot_units_in_house}
-use Rattle.machine.specs.Views.{lot_view, text_before}
+use Rattle.machine.specs.Views.{lot_status, lot_view, text_before}
 
 -- Pages
 
@@ -117,4 +120,36 @@ expiring_view first acts day seen = record {
   act = length acts;
   lots = map (item_lot first acts) (page (expiring_lots first acts day seen));
   more = goes_on (expiring_lots first acts day seen);
+}
+
+-- Lots in a bin
+
+-- by item, and then by expiry and by first receipt
+abbrev pub goes_before_by_item : KnownLot → KnownLot → Bool
+goes_before_by_item k m = text_before k.lot.gtin m.lot.gtin || (not (text_before m.lot.gtin k.lot.gtin) && goes_before k m)
+
+-- the lots of all items, by item
+abbrev pub lots_by_item : List Act → List KnownLot
+lots_by_item acts = in_order goes_before_by_item (lots acts)
+
+-- those with units in the bin behind the one that was seen last, which may have none there any more
+abbrev pub lots_in_bin : ℤ → List Act → List ℕ → Option KnownLot → List KnownLot
+lots_in_bin first acts b seen = filter (λ k. is_behind goes_before_by_item seen k && not (in_bin first acts b k.lot == 0)) (lots_by_item acts)
+
+abbrev pub bin_lot : ℤ → List Act → List ℕ → KnownLot → BinLot
+bin_lot first acts b k = record {
+  item = item_of acts k.lot.gtin;
+  lot = k.lot.lot;
+  expiry = k.expiry;
+  qty = in_bin first acts b k.lot;
+  status = lot_status first acts k;
+}
+
+abbrev pub bin_view : ℤ → List Act → NewBin → Option KnownLot → BinView
+bin_view first acts bin seen = record {
+  act = length acts;
+  bin = bin.bin;
+  kind = bin.kind;
+  lots = map (bin_lot first acts bin.bin) (page (lots_in_bin first acts bin.bin seen));
+  more = goes_on (lots_in_bin first acts bin.bin seen);
 }

@@ -2,15 +2,16 @@
 use Rattle.std.specs.Prelude.{ℕ, List, length, Option, Some, None, Result, Ok, ℤ}
 use Rattle.values.specs.declared.lot.LotId.{LotId}
 use Rattle.commands.specs.declared.refusal.Refusal.{Refusal}
-use Rattle.commands.specs.declared.refusal.Refusal.TheVariants.{UnknownItem, UnknownLot, UnknownOrder}
+use Rattle.commands.specs.declared.refusal.Refusal.TheVariants.{UnknownBin, UnknownItem, UnknownLot, UnknownOrder}
 use Rattle.overviews.specs.declared.lists.BooksView.{BooksView}
 use Rattle.overviews.specs.declared.lists.OpenOrdersView.{OpenOrdersView}
 use Rattle.overviews.specs.declared.lists.ItemNamesView.{ItemNamesView}
 use Rattle.overviews.specs.declared.lists.ExpiringView.{ExpiringView}
+use Rattle.overviews.specs.declared.lists.BinView.{BinView}
 use Rattle.machine.specs.Acts.{Act}
-use Rattle.machine.specs.Standing.{item_named, lot_known, order_named, today}
+use Rattle.machine.specs.Standing.{bin_named, item_named, lot_known, order_named, today}
 use Rattle.machine.specs.Queries.{if_known}
-use Rattle.overviews.specs.Pages.{open_orders_view, item_names_view, expiring_view}
+use Rattle.overviews.specs.Pages.{open_orders_view, item_names_view, expiring_view, bin_view}
 
 -- never refused
 abbrev pub books_shown : ℤ → List Act → Result BooksView Refusal
@@ -27,3 +28,8 @@ item_names_shown acts (Some g) = if_known (item_named acts g) UnknownItem (λ i.
 abbrev pub expiring_shown : ℤ → List Act → ℤ → Option LotId → Result ExpiringView Refusal
 expiring_shown first acts day None = Ok (expiring_view first acts day None)
 expiring_shown first acts day (Some l) = if_known (lot_known acts l) UnknownLot (λ k. Ok (expiring_view first acts day (Some k)))
+
+abbrev pub bin_shown : ℤ → List Act → List ℕ → Option LotId → Result BinView Refusal
+bin_shown first acts b None = if_known (bin_named acts b) UnknownBin (λ bin. Ok (bin_view first acts bin None))
+bin_shown first acts b (Some l) =
+    if_known (bin_named acts b) UnknownBin (λ bin. if_known (lot_known acts l) UnknownLot (λ k. Ok (bin_view first acts bin (Some k))))

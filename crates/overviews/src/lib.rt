@@ -4,6 +4,6 @@
 mod lists;
 
 pub use lists::{
-    BooksView, ExpiringView, ItemLot, ItemNamesView, NAMES_MAX, NamedItem, OpenOrder,
-    OpenOrdersView, PAGE_MAX,
+    BinLot, BinView, BooksView, ExpiringView, ItemLot, ItemNamesView, NAMES_MAX, NamedItem,
+    OpenOrder, OpenOrdersView, PAGE_MAX,
 };

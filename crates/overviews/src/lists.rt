@@ -1,8 +1,8 @@
 // The records of lists of which one answer shows a page.
 
-use commands::{ItemRow, Listed, LotView, OrderClass};
-use label::BusinessDay;
-use values::{LeastDays, Name, Title};
+use commands::{BinKind, ItemRow, Listed, LotStatus, LotView, OrderClass};
+use label::{BusinessDay, Day};
+use values::{LeastDays, Lot, Name, Title};
 
 /// What one answer has of a list, at most.
 pub const PAGE_MAX: usize = 100;
@@ -76,6 +76,29 @@ pub struct ItemNamesView {
     pub act: u64,
     /// By GTIN, so many at most as an answer has of items.
     pub items: Listed<NamedItem>,
+    /// Whether more come behind them.
+    pub more: bool,
+}
+
+/// Units of a lot in the bin that is shown.
+#[derive(Clone, Copy)]
+pub struct BinLot {
+    pub item: ItemRow,
+    pub lot: Lot,
+    pub expiry: Day,
+    pub qty: u64,
+    pub status: LotStatus,
+}
+
+/// What is in a bin.
+#[derive(Drop)]
+pub struct BinView {
+    /// The number of the last act.
+    pub act: u64,
+    pub bin: Name,
+    pub kind: BinKind,
+    /// By item, expiry and first receipt, so many at most as a page has.
+    pub lots: Listed<BinLot>,
     /// Whether more come behind them.
     pub more: bool,
 }

@@ -28,3 +28,7 @@ pub mod ExpiringPage
 mod ExpiringShown
 pub mod NamesPage
 pub mod NamesShown
+mod ByItem
+mod BinGiven
+pub mod BinPage
+mod BinShown

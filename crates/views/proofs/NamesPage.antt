@@ -1,5 +1,5 @@
 -- The items by the rows, in their order, are those of the machine.
-use Rattle.std.proofs.Common.{◌≡◌, ◌+◌, Bool, true, false, List, [], ◌∷◌, refl, ap, sym, subst, ◌∙◌}
+use Rattle.std.proofs.Common.{◌≡◌, ◌+◌, Bool, true, List, [], ◌∷◌, refl, ap, sym, subst, ◌∙◌}
 use Rattle.std.specs.Prelude.{ℤ, Option, Some, None, find, filter, map, take, option_map}
 use Rattle.values.specs.Values.{same_text}
 use Rattle.commands.specs.Lists.{in_order}

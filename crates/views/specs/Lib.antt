@@ -13,3 +13,5 @@ pub mod GivenExpiring
 pub mod ShownExpiring
 pub mod GivenNames
 pub mod ShownNames
+pub mod GivenBin
+pub mod ShownBin

@@ -25,7 +25,7 @@ use std::alloc::{AllocError, Global};
 use values::Lot;
 
 /// The order of lots: by expiry, and then by first receipt.
-struct ByExpiry;
+pub struct ByExpiry;
 
 impl Order<LotRow> for ByExpiry {
     ghost use Rattle.row_rules.specs.Plans.{goes_first};

@@ -1,6 +1,7 @@
 //! What queries show, from the rows of the tables.
 #![tactic(auto)]
 
+mod bin_lots;
 mod bins;
 mod expiring;
 mod found_rows;
@@ -17,6 +18,7 @@ mod pages;
 mod stock;
 mod text_order;
 
+pub use bin_lots::{bin_page, bin_view};
 pub use expiring::{expiring_page, expiring_view};
 pub use item_names::{item_names_view, items_page};
 pub use item_shorts::short_view;

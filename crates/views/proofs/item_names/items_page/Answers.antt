@@ -1,6 +1,5 @@
-use Rattle.std.proofs.Common.{◌≡◌, ◌+◌, [], List, ap, ◌∙◌}
+use Rattle.std.proofs.Common.{◌≡◌, ◌+◌, [], ap, ◌∙◌}
 use Rattle.std.specs.Prelude.{filter, take}
-use Rattle.commands.specs.declared.rows.ItemRow.{ItemRow}
 use Rattle.row_rules.specs.Plans.{inserted}
 use Rattle.overviews.specs.declared.lists.TheConstants.{NAMES_MAX}
 use Rattle.overviews.specs.Pages.{is_behind}

@@ -1,4 +1,4 @@
-use Rattle.std.proofs.Common.{◌≡◌, ℕ, List, arith, ap, ◌∙◌, ◌++◌, [], ◌∷◌}
+use Rattle.std.proofs.Common.{◌≡◌, List, arith, ap, ◌∙◌, ◌++◌, [], ◌∷◌}
 use Rattle.commands.specs.declared.rows.ItemRow.{ItemRow}
 use Rattle.commands.specs.declared.rows.LeastRow.{LeastRow}
 use Rattle.row_rules.specs.LookUps.{rows_given}

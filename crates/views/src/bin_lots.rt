@@ -1,0 +1,189 @@
+//! What is shown of the lots in a bin.
+
+ghost use Rattle.std.specs.Prelude.{◌≡◌, ◌+◌, ◌++◌, [], map, filter, take, IfOk, OnOk, Some, ℤ, ℕ, List, Option, length};
+ghost use Rattle.std.specs.List.{cons_option};
+ghost use Rattle.commands.specs.declared.command.NewBin.{NewBin};
+ghost use Rattle.machine.specs.Acts.{Act};
+ghost use Rattle.machine.specs.Once.{IsHistory};
+ghost use Rattle.machine.specs.Standing.{KnownLot, today};
+ghost use Rattle.overviews.specs.Pages.{lots_in_bin, bin_view as bin_view_lem};
+ghost use Rattle.views.specs.GivenExpiring.{all_found};
+ghost use Rattle.views.specs.GivenBin.{is_in_bin_row, is_in_bin_given as is_in_bin_given_lem, bin_and_more, bin_lot_seen, bin_lot_found, bin_seen};
+ghost use Rattle.views.specs.ShownExpiring.{known_row, IsLotSeenLast};
+ghost use Rattle.views.specs.ShownBin.{known_bin, AreInBin, AreOfBinPage};
+
+use crate::expiring::ByExpiry;
+use crate::least::least_of;
+use crate::pages::{first_in_order, is_behind, page_of};
+use crate::stock::{LotsShown, lots_shown};
+use crate::text_order::is_text_before;
+use commands::{BinRow, Listed, LotRow, StockRow};
+use label::BusinessDay;
+use overviews::{BinLot, BinView, PAGE_MAX};
+use row_rules::in_order::Order;
+use row_rules::list_parts::push_if;
+use row_rules::row_index::{RowsByText, by_text};
+use row_rules::row_search::find_row;
+use row_rules::status::lot_status;
+use row_rules::stock::units_among;
+use rules::Rows;
+use std::alloc::{AllocError, Global};
+use values::{Lot, Name};
+
+/// The order of lots in a bin: by item, and then by expiry and first receipt.
+struct ByItem;
+
+impl Order<LotRow> for ByItem {
+    ghost use Rattle.views.specs.GivenBin.{first_by_item};
+
+    ghost before = { first_by_item };
+
+    fn is_before(first: &LotRow, second: &LotRow) -> bool {
+        let earlier = is_text_before(first.lot.gtin.as_bytes(), second.lot.gtin.as_bytes());
+        let later = is_text_before(second.lot.gtin.as_bytes(), first.lot.gtin.as_bytes());
+        earlier || (!later && ByExpiry::is_before(first, second))
+    }
+}
+
+// Which lots
+
+fn is_in_bin(bin: &Name, seen: &Option<LotRow>, stock: &[StockRow], lot: &LotRow) -> bool
+    ensures { result ≡ is_in_bin_row bin.now seen.now stock.now lot.now }
+{
+    is_behind::<ByItem, LotRow>(seen, lot) && units_among(stock, &lot.lot, bin) != 0
+}
+
+fn is_in_bin_given(
+    bin: &Name,
+    seen: &Option<LotRow>,
+    stock: &RowsByText<'_, StockRow>,
+    lot: &LotRow,
+) -> bool
+    ensures { result ≡ is_in_bin_given_lem bin.now seen.now stock.now lot.now }
+{
+    is_in_bin(bin, seen, stock.candidates(&lot.lot.lot), lot)
+}
+
+fn lots_given(
+    alloc: Global,
+    bin: &Name,
+    seen: &Option<LotRow>,
+    stock: &RowsByText<'_, StockRow>,
+    lots: &[LotRow],
+) -> Result<Vec<LotRow>, AllocError>
+    ensures { IfOk result (λ v. v.items ≡ filter (is_in_bin_given_lem bin.now seen.now stock.now) lots.now) }
+{
+    let mut in_bin = Vec::new(alloc);
+    for lot in lots {
+        let wanted = is_in_bin_given(bin, seen, stock, lot);
+        push_if(&mut in_bin, wanted, *lot)?;
+    }
+    Ok(in_bin)
+}
+
+/// The lots with units in the bin that stand behind the one that was seen last, by item, expiry and first receipt: as many as
+/// a page has, and one more where they go on. The rows are the stock of the bin, and the lots of it; others may be among them.
+pub fn bin_page(
+    alloc: Global,
+    bin: &Name,
+    lots: &[LotRow],
+    stock: &[StockRow],
+    seen: Option<LotRow>,
+) -> Result<Vec<LotRow>, AllocError>
+    ensures seen { IfOk result (λ v. v.items ≡ bin_and_more bin.now seen stock.now lots.now) }
+    ensures shown { (first : ℤ) (acts : List Act) (last : Option KnownLot) → IsHistory first acts → IsLotSeenLast acts last seen → AreInBin first acts bin.now lots.now stock.now
+        → IfOk result (λ v. v.items ≡ map (known_row acts) (take (PAGE_MAX + 1) (lots_in_bin first acts bin.now last))) }
+{
+    let given = by_text::<Lot, StockRow>(alloc, stock, lots.len())?;
+    let in_bin = lots_given(alloc, bin, &seen, &given, lots)?;
+    first_in_order::<ByItem, LotRow>(alloc, in_bin.as_slice(), PAGE_MAX + 1)
+}
+
+// What is shown of them
+
+fn bin_lot(
+    day: BusinessDay,
+    bin: &Name,
+    rows: &Rows,
+    shown: &LotsShown<'_>,
+    row: &LotRow,
+) -> Option<BinLot>
+    ensures { result ≡ bin_lot_found day bin.now rows.now shown.now row.now }
+{
+    let lot = &row.lot;
+    let item = find_row(rows.items.as_slice(), &lot.gtin)?;
+    let least = least_of(rows.least.as_slice(), &lot.gtin);
+    Some(BinLot {
+        item,
+        lot: lot.lot,
+        expiry: row.expiry,
+        qty: units_among(shown.in_bins.candidates(&lot.lot), lot, bin),
+        status: lot_status(day, least.days(), shown.recalls.candidates(&lot.lot), row),
+    })
+}
+
+fn push_found(lots: &mut Vec<BinLot>, found: Option<BinLot>) -> Result<(), AllocError>
+    ensures { OnOk result (lots.new.items ≡ lots.old.items ++ cons_option found []) }
+{
+    if let Some(lot) = found {
+        lots.push(lot)?;
+    }
+    Ok(())
+}
+
+fn lots_found(
+    alloc: Global,
+    day: BusinessDay,
+    bin: &Name,
+    rows: &Rows,
+    shown: &LotsShown<'_>,
+    page: &[LotRow],
+) -> Result<Vec<BinLot>, AllocError>
+    ensures { IfOk result (λ v. v.items ≡ all_found (bin_lot_found day bin.now rows.now shown.now) page.now) }
+{
+    let mut lots = Vec::new(alloc);
+    for row in page {
+        let found = bin_lot(day, bin, rows, shown, row);
+        push_found(&mut lots, found)?;
+    }
+    Ok(lots)
+}
+
+fn bin_lots(
+    alloc: Global,
+    day: BusinessDay,
+    bin: &Name,
+    rows: &Rows,
+    page: &[LotRow],
+) -> Result<Vec<BinLot>, AllocError>
+    ensures { IfOk result (λ v. v.items ≡ all_found (bin_lot_seen day bin.now rows.now) page.now) }
+{
+    let shown = lots_shown(alloc, rows, page.len())?;
+    lots_found(alloc, day, bin, rows, &shown, page)
+}
+
+/// What is shown on a business day of a page of the lots in a bin whose row this is, which has one more where they go on
+/// (`bin_page`), after so many acts. The rows are those of the items of the lots, what they ask for, their recalls, and the
+/// stock of the bin; others may be among them. It fails for want of memory alone.
+pub fn bin_view(
+    alloc: Global,
+    act: u64,
+    day: BusinessDay,
+    bin: &BinRow,
+    rows: &Rows,
+    found: &[LotRow],
+) -> Result<BinView, AllocError>
+    ensures seen { IfOk result (λ view. view ≡ bin_seen act day bin.now rows.now found.now) }
+    ensures shown { (first : ℤ) (acts : List Act) (last : Option KnownLot) → IsHistory first acts → length acts ≡ act → today first acts ≡ day
+        → found.now ≡ map (known_row acts) (take (PAGE_MAX + 1) (lots_in_bin first acts bin.now.name last)) → AreOfBinPage first acts bin.now.name last rows.now
+        → IfOk result (λ view. view ≡ bin_view_lem first acts (known_bin bin.now) last) }
+{
+    let lots = bin_lots(alloc, day, &bin.name, rows, page_of(found))?;
+    Ok(BinView {
+        act,
+        bin: bin.name,
+        kind: bin.kind,
+        lots: Listed::from_vec(lots),
+        more: found.len() > PAGE_MAX,
+    })
+}
