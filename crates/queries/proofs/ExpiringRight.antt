@@ -1,12 +1,11 @@
 -- What is read of the tables of a history are the rows by which lots that expire are shown.
-use Rattle.std.proofs.Common.{◌≡◌, ℕ, Bool, true, false, ◌&&◌, not, List, [], ◌∷◌, refl, ap, sym, subst, ◌∙◌, Global}
-use Rattle.std.specs.Prelude.{◌||◌, ◌+◌, Option, Some, None, option_map, ℤ, Result, Ok, Err, Vec, length, map, take}
+use Rattle.std.proofs.Common.{◌≡◌, ℕ, Bool, true, List, [], refl, ap, sym, subst, ◌∙◌, Global}
+use Rattle.std.specs.Prelude.{◌||◌, ◌+◌, Option, Some, None, ℤ, Ok, Err, Vec, length, map, take}
 use Rattle.std.specs.List.{list_any}
 use Rattle.std.proofs.lemmas.Option.{same_Some}
 use Rattle.values.specs.Values.{same_text}
 use Rattle.values.specs.declared.lot.LotId.{LotId}
 use Rattle.commands.specs.Tables.{Tables}
-use Rattle.commands.specs.declared.refusal.Refusal.{Refusal}
 use Rattle.commands.specs.declared.refusal.Refusal.TheVariants.{UnknownLot}
 use Rattle.commands.specs.declared.rows.LotRow.{LotRow}
 use Rattle.commands.specs.declared.rows.MetaRow.{MetaRow}

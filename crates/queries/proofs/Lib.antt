@@ -8,3 +8,4 @@ pub mod KnownTold
 pub mod Asked
 mod NamesRight
 mod ExpiringRight
+mod BinRight

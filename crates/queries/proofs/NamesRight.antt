@@ -1,12 +1,11 @@
 -- What is read of the tables of a history are the rows by which items are shown.
-use Rattle.std.proofs.Common.{◌≡◌, ℕ, Bool, true, false, ◌&&◌, not, List, [], ◌∷◌, refl, ap, sym, subst, ◌∙◌, Global}
-use Rattle.std.specs.Prelude.{◌+◌, Option, Some, None, option_map, ℤ, Result, Ok, Err, Vec, length, map, take}
+use Rattle.std.proofs.Common.{◌≡◌, ℕ, true, not, List, [], ◌∷◌, refl, ap, sym, subst, ◌∙◌, Global}
+use Rattle.std.specs.Prelude.{◌+◌, Option, Some, None, option_map, ℤ, Ok, Err, Vec, length, map, take}
 use Rattle.std.specs.List.{list_any}
 use Rattle.std.proofs.lemmas.Option.{same_Some}
 use Rattle.values.specs.Values.{same_text}
 use Rattle.commands.specs.Tables.{Tables}
 use Rattle.commands.specs.declared.command.NewItem.{NewItem}
-use Rattle.commands.specs.declared.refusal.Refusal.{Refusal}
 use Rattle.commands.specs.declared.refusal.Refusal.TheVariants.{UnknownItem}
 use Rattle.commands.specs.declared.rows.ItemRow.{ItemRow}
 use Rattle.commands.specs.declared.rows.LeastRow.{LeastRow}

@@ -11,3 +11,4 @@ pub mod ShownOpen
 pub mod Refused
 pub mod ShownNames
 pub mod ShownExpiring
+pub mod ShownBin

@@ -1,5 +1,4 @@
 use Rattle.std.proofs.Common.{◌≡◌, List, refl, ap, subst, ◌∙◌}
-use Rattle.commands.specs.Tables.{Tables}
 use Rattle.commands.specs.declared.rows.LotRow.{LotRow}
 use Rattle.sqlite.specs.declared.error.Error.TheVariants.{SqliteFailure}
 use Rattle.sqlite.specs.declared.error.ErrorCode.TheVariants.{OutOfMemory}
@@ -8,7 +7,7 @@ use Rattle.slices.specs.Slicing.{items_of_lots}
 use Rattle.views.specs.GivenExpiring.{lots_and_more}
 use Rattle.known_reads.proofs.ReadSteps.{has_read, read_on, fails_first, fails_later, no_room_left}
 use Rattle.known_reads.proofs.KnowingSteps.{and_known, known_told}
-use Rattle.queries.specs.ShownExpiring.{AreHouse, AreOfItems}
+use Rattle.queries.specs.ShownExpiring.{AreOfItems}
 use Rattle.queries.proofs.shown_expiring.read_expiring.Goals as goal
 
 pub returns-in_err-house-clause-read : goal.returns-in_err-house-clause-read

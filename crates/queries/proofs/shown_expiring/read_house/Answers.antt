@@ -1,4 +1,4 @@
-use Rattle.std.proofs.Common.{subst, ◌∙◌, ap, List, ◌≡◌}
+use Rattle.std.proofs.Common.{subst, List, ◌≡◌}
 use Rattle.values.specs.declared.lot.LotId.{LotId}
 use Rattle.commands.specs.Tables.{Tables}
 use Rattle.slices.specs.ByLot.{AreLotsOf}

@@ -1,0 +1,10 @@
+use Rattle.std.proofs.Common.{ap, ◌∙◌}
+use Rattle.commands.specs.declared.rows.StockRow.{StockRow}
+use Rattle.machine.specs.Postings.{is_lot}
+use Rattle.slice_lists.specs.Keys.{with_keys}
+use Rattle.queries.proofs.shown_bin.lots_of_stock.Goals as goal
+
+pub returns : goal.returns
+returns c =
+    let none = c.new-list.ensures in
+    c.into_values.ensures ∙ c.in_ok-add_all.ensures.added none.keyed ∙ ap (with_keys is_lot (λ (r : StockRow). r.lot) c.args.stock.now) none.none
