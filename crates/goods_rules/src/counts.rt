@@ -2,9 +2,8 @@
 
 ghost use Rattle.std.specs.Prelude.{◌≡◌, IfOk};
 ghost use Rattle.machine.specs.Verdict.{first_refusal, taken_off as taken_off_lem, put_on as put_on_lem};
-ghost use Rattle.row_rules.specs.Seen.{meta_after, none_put, none_dropped};
 ghost use Rattle.row_rules.specs.SeenLots.{in_bin_seen};
-ghost use Rattle.goods_rules.specs.DecidedCount.{count_seen, count_changes, adjust_seen, adjust_changes, is_over_without as is_over_without_lem, found_less as found_less_lem, stock_corrected, correction_replanned as correction_replanned_lem, correction_card as correction_card_lem, correction_cards as correction_cards_lem, change_reply as change_reply_lem, corrections as corrections_lem, units_adjusted as units_adjusted_lem};
+ghost use Rattle.goods_rules.specs.DecidedCount.{count_seen, count_changes, adjust_seen, adjust_changes, is_over_without as is_over_without_lem, found_less as found_less_lem, written_told, correction_card as correction_card_lem, correction_cards as correction_cards_lem, change_reply as change_reply_lem, corrections as corrections_lem, correction_facts as correction_facts_lem};
 
 use crate::goods::units_in_house;
 use commands::limits::{CARD_NOTE_MAX, UNITS_MAX};
@@ -12,13 +11,13 @@ use commands::{
     Adjustment, CardKind, CardRow, Listed, Recount, Refusal, ReplyField, Short, StockRow, reply,
 };
 use row_rules::cards::lot_units;
-use row_rules::change_parts::{meta_next, none_dropped, none_put, number_seen};
+use row_rules::change_parts::number_seen;
 use row_rules::first_refusal::first_of;
 use row_rules::goods_seen::{sees_bin, sees_item};
-use row_rules::plans::{SupplyRows, item_rows};
-use row_rules::replanning::{Replanned, replan_supplies};
-use row_rules::stock::{sees_lot, stock_gone, stock_put, stock_rows_with, units_in_bin};
-use row_rules::{Change, Dropped, Put, Slice};
+use row_rules::stock::{sees_lot, units_in_bin};
+use row_rules::{Change, Slice};
+use shelves::changes::{Facts, change_in_bins, posted_once, stock_posted};
+use shelves::posting::{Place, Posting};
 use std::alloc::{AllocError, Global};
 use values::{Gtin, LotId, Name, Text};
 
@@ -89,13 +88,11 @@ fn taken_off(change: i32) -> u64
 
 // Changing
 
-/// What a bin has of a lot after units of it are written on or off.
+/// Units of a lot that are written on to a bin, or off it.
 #[derive(Clone, Copy)]
 struct Correction {
     lot: LotId,
     bin: Name,
-    /// The units that are left in the bin.
-    left: u64,
     /// The units written on, below 0 where they are written off.
     change: i64,
 }
@@ -112,22 +109,32 @@ pub fn change_count(alloc: Global, slice: &Slice, c: &Recount) -> Result<Change,
 pub fn change_adjust(alloc: Global, slice: &Slice, a: &Adjustment) -> Result<Change, AllocError>
     ensures { IfOk result (λ change. change ≡ adjust_changes slice.now a.now) }
 {
-    let made = adjusted(slice, a);
+    let made = adjusted(a);
     corrections(alloc, slice, &made)
 }
 
 fn counted(slice: &Slice, c: &Recount) -> Correction
     ensures lot { result.lot ≡ c.now.lot }
     ensures bin { result.bin ≡ c.now.bin }
-    ensures left { result.left ≡ c.now.qty }
     ensures change { result.change ≡ found_less_lem c.now.qty (in_bin_seen slice.now c.now.bin c.now.lot) }
 {
     let have = units_in_bin(slice, &c.bin, &c.lot);
     Correction {
         lot: c.lot,
         bin: c.bin,
-        left: u64::from(c.qty.units()),
         change: found_less(c.qty.units(), have),
+    }
+}
+
+fn adjusted(a: &Adjustment) -> Correction
+    ensures lot { result.lot ≡ a.now.lot }
+    ensures bin { result.bin ≡ a.now.bin }
+    ensures change { result.change ≡ a.now.change }
+{
+    Correction {
+        lot: a.lot,
+        bin: a.bin,
+        change: i64::from(a.change.change()),
     }
 }
 
@@ -138,94 +145,54 @@ fn found_less(found: u32, have: u64) -> i64
     i64::from(found) - have.min(i64::MAX as u64) as i64
 }
 
-fn adjusted(slice: &Slice, a: &Adjustment) -> Correction
-    ensures lot { result.lot ≡ a.now.lot }
-    ensures bin { result.bin ≡ a.now.bin }
-    ensures left { result.left ≡ units_adjusted_lem slice.now a.now }
-    ensures change { result.change ≡ a.now.change }
+// What is posted of units written on or off.
+fn written_posted(made: &Correction) -> Option<Posting>
+    ensures { result ≡ written_told made.now.lot made.now.bin made.now.change }
 {
-    Correction {
-        lot: a.lot,
-        bin: a.bin,
-        left: units_adjusted(slice, a),
-        change: i64::from(a.change.change()),
+    let units = made.change.unsigned_abs();
+    let bin = Place::InBin(made.bin);
+    if made.change < 0 {
+        return posted_once(&made.lot, bin, Place::WriteOff, units);
     }
-}
-
-fn units_adjusted(slice: &Slice, a: &Adjustment) -> u64
-    ensures { result ≡ units_adjusted_lem slice.now a.now }
-{
-    let have = units_in_bin(slice, &a.bin, &a.lot);
-    let more = put_on(a.change.change());
-    have.saturating_add(more)
-        .saturating_sub(taken_off(a.change.change()))
+    posted_once(&made.lot, Place::WriteOff, bin, units)
 }
 
 fn corrections(alloc: Global, slice: &Slice, made: &Correction) -> Result<Change, AllocError>
-    ensures { IfOk result (λ change. change ≡ corrections_lem slice.now made.now.lot made.now.bin made.now.left made.now.change) }
+    ensures { IfOk result (λ change. change ≡ corrections_lem slice.now made.now.lot made.now.bin made.now.change) }
 {
-    let olds = slice.rows.stock.as_slice();
-    let stock = stock_rows_with(alloc, olds, &made.lot, &made.bin, made.left)?;
-    let put = stock_put(alloc, &made.lot, &made.bin, made.left)?;
-    let gone = stock_gone(alloc, olds, &made.lot, &made.bin, made.left)?;
-    let cards = correction_cards(alloc, slice, made, stock.as_slice())?;
-    let reserved = correction_replanned(alloc, slice, made, stock.as_slice())?;
-    Ok(corrected(alloc, slice, made, put, gone, cards, reserved))
+    let posting = written_posted(made);
+    let stock = stock_posted(alloc, slice, &posting)?;
+    let in_bins = stock.as_slice();
+    let facts = correction_facts(alloc, slice, made, in_bins)?;
+    let lots = slice.rows.lots.as_slice();
+    change_in_bins(alloc, slice, &made.lot.gtin, &posting, lots, in_bins, facts)
 }
 
-// The change by these rows.
-fn corrected(
-    alloc: Global,
-    slice: &Slice,
-    made: &Correction,
-    put: Vec<StockRow>,
-    gone: Vec<StockRow>,
-    cards: Vec<CardRow>,
-    reserved: Replanned,
-) -> Change
-    ensures { result ≡ record { meta = meta_after slice.now; put = record none_put { stock = put.items; reserved = reserved.put; cards = cards.items }; dropped = record none_dropped { stock = gone.items; reserved = reserved.dropped }; text = change_reply_lem slice.now made.now.change } }
-{
-    Change {
-        meta: meta_next(slice),
-        put: Put {
-            stock: Listed::from_vec(put),
-            reserved: reserved.put,
-            cards: Listed::from_vec(cards),
-            ..none_put(alloc)
-        },
-        dropped: Dropped {
-            stock: Listed::from_vec(gone),
-            reserved: reserved.dropped,
-            ..none_dropped(alloc)
-        },
-        text: change_reply(slice, made.change),
-    }
-}
-
-// What changes of the reserved rows, where these are the stock rows after it.
-fn correction_replanned(
+// The card line and the reply, where these are the stock rows after it.
+fn correction_facts(
     alloc: Global,
     slice: &Slice,
     made: &Correction,
     stock: &[StockRow],
-) -> Result<Replanned, AllocError>
-    ensures { IfOk result (λ r. stock.now ≡ stock_corrected slice.now made.now.lot made.now.bin made.now.left → r ≡ correction_replanned_lem slice.now made.now.lot made.now.bin made.now.left) }
+) -> Result<Facts, AllocError>
+    ensures { IfOk result (λ f. f ≡ correction_facts_lem slice.now made.now.lot made.now.bin made.now.change stock.now) }
 {
-    let rows = SupplyRows {
-        stock,
-        ..item_rows(&slice.rows).supplies
-    };
-    replan_supplies(alloc, slice, &made.lot.gtin, &rows)
+    let cards = correction_cards(alloc, slice, made, stock)?;
+    Ok(Facts {
+        lots: Listed::from_vec(Vec::new(alloc)),
+        cards,
+        text: change_reply(slice, made),
+    })
 }
 
-// The card line of units written on or off, after which these are the stock rows.
+// The card line of units written on or off.
 fn correction_cards(
     alloc: Global,
     slice: &Slice,
     made: &Correction,
     stock: &[StockRow],
-) -> Result<Vec<CardRow>, AllocError>
-    ensures { IfOk result (λ v. stock.now ≡ stock_corrected slice.now made.now.lot made.now.bin made.now.left → v.items ≡ correction_cards_lem slice.now made.now.lot made.now.bin made.now.left made.now.change) }
+) -> Result<Listed<CardRow>, AllocError>
+    ensures { IfOk result (λ v. v ≡ correction_cards_lem slice.now made.now.lot made.now.bin made.now.change stock.now) }
 {
     let mut cards = Vec::new(alloc);
     if 0 < made.change {
@@ -233,11 +200,11 @@ fn correction_cards(
     } else if made.change < 0 {
         cards.push(correction_card(slice, made, CardKind::WriteOff, stock))?;
     }
-    Ok(cards)
+    Ok(Listed::from_vec(cards))
 }
 
 fn correction_card(slice: &Slice, made: &Correction, kind: CardKind, stock: &[StockRow]) -> CardRow
-    ensures { stock.now ≡ stock_corrected slice.now made.now.lot made.now.bin made.now.left → result ≡ correction_card_lem slice.now made.now.lot made.now.bin made.now.left made.now.change kind }
+    ensures { result ≡ correction_card_lem slice.now made.now.lot made.now.bin made.now.change kind stock.now }
 {
     CardRow {
         lot: made.lot,
@@ -258,8 +225,8 @@ fn bin_note(bin: &Name) -> Text<CARD_NOTE_MAX>
 }
 
 // The reply with the change.
-fn change_reply(slice: &Slice, change: i64) -> Short
-    ensures { result ≡ change_reply_lem slice.now change }
+fn change_reply(slice: &Slice, made: &Correction) -> Short
+    ensures { result ≡ change_reply_lem slice.now made.now.change }
 {
-    reply(number_seen(slice), Some(ReplyField::ChangedBy(change)))
+    reply(number_seen(slice), Some(ReplyField::ChangedBy(made.change)))
 }

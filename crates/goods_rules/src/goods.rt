@@ -1,26 +1,23 @@
 //! Goods that come in.
 
-ghost use Rattle.std.specs.Prelude.{◌≡◌, ◌&&◌, ◌∷◌, not, filter, IfOk};
-ghost use Rattle.values.specs.Values.{same_text};
-ghost use Rattle.machine.specs.Postings.{is_lot};
+ghost use Rattle.std.specs.Prelude.{◌≡◌, IfOk};
 ghost use Rattle.machine.specs.Verdict.{first_refusal};
-ghost use Rattle.row_rules.specs.Seen.{meta_after, none_put, none_dropped, plain_reply as plain_reply_lem, capped, stock_units, staged_units, units_seen, expires_otherwise_than, is_over as is_over_lem};
-ghost use Rattle.goods_rules.specs.DecidedReceive.{receive_seen, receive_changes, receive_replanned as receive_replanned_lem, receive_card as receive_card_lem, stock_after as stock_after_lem, stock_rows_after as stock_rows_after_lem, lots_put as lots_put_lem, lots_if_new as lots_if_new_lem, new_lot_row as new_lot_row_lem, lot_rows_after as lot_rows_after_lem};
+ghost use Rattle.row_rules.specs.Seen.{capped, stock_units, staged_units, units_seen, expires_otherwise_than, is_over as is_over_lem};
+ghost use Rattle.goods_rules.specs.DecidedReceive.{receive_seen, receive_told, receive_changes, receive_facts as receive_facts_lem, receive_card as receive_card_lem, lots_put as lots_put_lem, lots_if_new as lots_if_new_lem, new_lot_row as new_lot_row_lem, lot_rows_after as lot_rows_after_lem};
 
 use commands::limits::UNITS_MAX;
 use commands::{CardKind, CardRow, Key, Listed, LotRow, Receipt, Refusal, StagedRow, StockRow};
 use label::Day;
 use row_rules::cards::{delivery_note, lot_units};
-use row_rules::change_parts::{meta_next, none_dropped, none_put, number_seen, one, plain_reply};
+use row_rules::change_parts::{number_seen, one, plain_reply};
 use row_rules::first_refusal::first_of;
 use row_rules::goods_seen::{lot_seen, sees_bin, sees_item, sees_recall};
-use row_rules::list_parts::{in_front, push_if};
-use row_rules::plans::{SupplyRows, item_rows};
-use row_rules::replanning::{Replanned, replan_supplies};
-use row_rules::row_search::{rows_without, units_with};
+use row_rules::list_parts::push_if;
+use row_rules::row_search::units_with;
 use row_rules::status::is_expired;
-use row_rules::stock::units_in_bin;
-use row_rules::{Change, Dropped, Put, Slice};
+use row_rules::{Change, Slice};
+use shelves::changes::{Facts, change_in_bins, posted_once, stock_posted};
+use shelves::posting::{Place, Posting};
 use std::alloc::{AllocError, Global};
 use values::Gtin;
 
@@ -92,45 +89,44 @@ pub fn change_receive(
 ) -> Result<Change, AllocError>
     ensures { IfOk result (λ change. change ≡ receive_changes slice.now key.now r.now) }
 {
-    let stock = stock_rows_after(alloc, slice, r)?;
-    let lots = lots_put(alloc, slice, r)?;
-    let put = one(alloc, stock_after(slice, r))?;
-    let cards = one(alloc, receive_card(slice, key, r, stock.as_slice()))?;
-    let reserved = receive_replanned(alloc, slice, r, stock.as_slice())?;
-    Ok(received(alloc, slice, lots, put, cards, reserved))
+    let posting = receive_posted(r);
+    let stock = stock_posted(alloc, slice, &posting)?;
+    let in_bins = stock.as_slice();
+    let lots = lot_rows_after(alloc, slice, r)?;
+    let facts = receive_facts(alloc, slice, key, r, in_bins)?;
+    let known = lots.as_slice();
+    change_in_bins(alloc, slice, &r.lot.gtin, &posting, known, in_bins, facts)
 }
 
-// The change by these rows.
-fn received(
+// What a receipt posts.
+fn receive_posted(r: &Receipt) -> Option<Posting>
+    ensures { result ≡ receive_told r.now }
+{
+    let units = u64::from(r.qty.units());
+    posted_once(&r.lot, Place::Supplier, Place::InBin(r.bin), units)
+}
+
+// The lot row and the card line of a receipt, after which these are the stock rows.
+fn receive_facts(
     alloc: Global,
     slice: &Slice,
-    lots: Vec<LotRow>,
-    put: Listed<StockRow>,
-    cards: Listed<CardRow>,
-    reserved: Replanned,
-) -> Change
-    ensures { result ≡ record { meta = meta_after slice.now; put = record none_put { lots = lots.items; stock = put; reserved = reserved.put; cards = cards }; dropped = record none_dropped { reserved = reserved.dropped }; text = plain_reply_lem slice.now } }
+    key: &Key,
+    r: &Receipt,
+    stock: &[StockRow],
+) -> Result<Facts, AllocError>
+    ensures { IfOk result (λ f. f ≡ receive_facts_lem slice.now key.now r.now stock.now) }
 {
-    Change {
-        meta: meta_next(slice),
-        put: Put {
-            lots: Listed::from_vec(lots),
-            stock: put,
-            reserved: reserved.put,
-            cards,
-            ..none_put(alloc)
-        },
-        dropped: Dropped {
-            reserved: reserved.dropped,
-            ..none_dropped(alloc)
-        },
+    let lots = lots_put(alloc, slice, r)?;
+    let cards = one(alloc, receive_card(slice, key, r, stock))?;
+    Ok(Facts {
+        lots: Listed::from_vec(lots),
+        cards,
         text: plain_reply(slice),
-    }
+    })
 }
 
-// The card line of a receipt, after which these are the stock rows.
 fn receive_card(slice: &Slice, key: &Key, r: &Receipt, stock: &[StockRow]) -> CardRow
-    ensures { stock.now ≡ stock_rows_after_lem slice.now r.now → result ≡ receive_card_lem slice.now key.now r.now }
+    ensures { result ≡ receive_card_lem slice.now key.now r.now stock.now }
 {
     CardRow {
         lot: r.lot,
@@ -141,24 +137,6 @@ fn receive_card(slice: &Slice, key: &Key, r: &Receipt, stock: &[StockRow]) -> Ca
         qty: i64::from(r.qty.units()),
         rest: lot_units(&r.lot, stock, slice.rows.staged.as_slice()),
     }
-}
-
-// What a receipt changes of the reserved rows, where these are the stock rows after it.
-fn receive_replanned(
-    alloc: Global,
-    slice: &Slice,
-    r: &Receipt,
-    stock: &[StockRow],
-) -> Result<Replanned, AllocError>
-    ensures { IfOk result (λ c. stock.now ≡ stock_rows_after_lem slice.now r.now → c ≡ receive_replanned_lem slice.now r.now) }
-{
-    let lots = lot_rows_after(alloc, slice, r)?;
-    let rows = SupplyRows {
-        lots: lots.as_slice(),
-        stock,
-        ..item_rows(&slice.rows).supplies
-    };
-    replan_supplies(alloc, slice, &r.lot.gtin, &rows)
 }
 
 // The rows of lots with the lot that is received, if it is new.
@@ -195,35 +173,4 @@ fn new_lot_row(slice: &Slice, r: &Receipt) -> LotRow
         came: number_seen(slice),
         held: false,
     }
-}
-
-// The stock rows after a receipt.
-fn stock_rows_after(alloc: Global, slice: &Slice, r: &Receipt) -> Result<Vec<StockRow>, AllocError>
-    ensures { IfOk result (λ v. v.items ≡ stock_rows_after_lem slice.now r.now) }
-{
-    with_stock(alloc, slice.rows.stock.as_slice(), stock_after(slice, r))
-}
-
-fn stock_after(slice: &Slice, r: &Receipt) -> StockRow
-    ensures { result ≡ stock_after_lem slice.now r.now }
-{
-    StockRow {
-        lot: r.lot,
-        bin: r.bin,
-        qty: units_after(slice, r),
-    }
-}
-
-fn units_after(slice: &Slice, r: &Receipt) -> u64
-    ensures { result ≡ (stock_after_lem slice.now r.now).qty }
-{
-    units_in_bin(slice, &r.bin, &r.lot).saturating_add(u64::from(r.qty.units()))
-}
-
-// The stock rows with this one in the place of that under its key.
-fn with_stock(alloc: Global, rows: &[StockRow], new: StockRow) -> Result<Vec<StockRow>, AllocError>
-    ensures { IfOk result (λ v. v.items ≡ new ∷ filter (λ q. not (is_lot new.lot q.lot && same_text new.bin q.bin)) rows.now) }
-{
-    let others = rows_without(alloc, rows, &(new.lot, new.bin))?;
-    in_front(alloc, new, others.as_slice())
 }

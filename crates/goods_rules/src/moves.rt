@@ -1,19 +1,17 @@
 //! Units that are moved from one bin to another.
 
-ghost use Rattle.std.specs.Prelude.{◌≡◌, ◌++◌, nat_lt, IfOk};
+ghost use Rattle.std.specs.Prelude.{◌≡◌, nat_lt, IfOk};
 ghost use Rattle.machine.specs.Verdict.{first_refusal};
-ghost use Rattle.row_rules.specs.Seen.{meta_after, none_put, none_dropped, plain_reply as plain_reply_lem};
-ghost use Rattle.row_rules.specs.SeenLots.{in_bin_seen, stock_put as stock_put_lem, stock_gone as stock_gone_lem};
-ghost use Rattle.goods_rules.specs.DecidedMove.{move_seen, move_changes, move_replanned as move_replanned_lem, units_left as units_left_lem, units_brought as units_brought_lem, stock_rows_moved as stock_rows_moved_lem};
+ghost use Rattle.row_rules.specs.SeenLots.{in_bin_seen};
+ghost use Rattle.goods_rules.specs.DecidedMove.{move_seen, move_told, move_changes};
 
-use commands::{Listed, Movement, Refusal, StockRow};
-use row_rules::change_parts::{meta_next, none_dropped, none_put, plain_reply};
+use commands::{Movement, Refusal};
 use row_rules::first_refusal::first_of;
 use row_rules::goods_seen::{sees_bin, sees_item};
-use row_rules::plans::{SupplyRows, item_rows};
-use row_rules::replanning::{Replanned, replan_supplies};
-use row_rules::stock::{sees_lot, stock_gone, stock_put, stock_rows_with, units_in_bin};
-use row_rules::{Change, Dropped, Put, Slice};
+use row_rules::stock::{sees_lot, units_in_bin};
+use row_rules::{Change, Slice};
+use shelves::changes::{change_in_bins, no_facts, posted_once, stock_posted};
+use shelves::posting::{Place, Posting};
 use std::alloc::{AllocError, Global};
 
 /// The refusal of a move, if it is refused.
@@ -47,93 +45,18 @@ fn is_missing(slice: &Slice, m: &Movement) -> bool
 pub fn change_move(alloc: Global, slice: &Slice, m: &Movement) -> Result<Change, AllocError>
     ensures { IfOk result (λ change. change ≡ move_changes slice.now m.now) }
 {
-    let put = moved_put(alloc, slice, m)?;
-    let gone = moved_gone(alloc, slice, m)?;
-    let reserved = move_replanned(alloc, slice, m)?;
-    Ok(moved(alloc, slice, put, gone, reserved))
+    let posting = move_posted(m);
+    let stock = stock_posted(alloc, slice, &posting)?;
+    let lots = slice.rows.lots.as_slice();
+    let facts = no_facts(alloc, slice);
+    let in_bins = stock.as_slice();
+    change_in_bins(alloc, slice, &m.lot.gtin, &posting, lots, in_bins, facts)
 }
 
-// The change by these stock rows and reserved rows.
-fn moved(
-    alloc: Global,
-    slice: &Slice,
-    put: Vec<StockRow>,
-    gone: Vec<StockRow>,
-    reserved: Replanned,
-) -> Change
-    ensures { result ≡ record { meta = meta_after slice.now; put = record none_put { stock = put.items; reserved = reserved.put }; dropped = record none_dropped { stock = gone.items; reserved = reserved.dropped }; text = plain_reply_lem slice.now } }
+// What a move posts.
+fn move_posted(m: &Movement) -> Option<Posting>
+    ensures { result ≡ move_told m.now }
 {
-    Change {
-        meta: meta_next(slice),
-        put: Put {
-            stock: Listed::from_vec(put),
-            reserved: reserved.put,
-            ..none_put(alloc)
-        },
-        dropped: Dropped {
-            stock: Listed::from_vec(gone),
-            reserved: reserved.dropped,
-            ..none_dropped(alloc)
-        },
-        text: plain_reply(slice),
-    }
-}
-
-// What a move changes of the reserved rows.
-fn move_replanned(alloc: Global, slice: &Slice, m: &Movement) -> Result<Replanned, AllocError>
-    ensures { IfOk result (λ r. r ≡ move_replanned_lem slice.now m.now) }
-{
-    let stock = stock_rows_moved(alloc, slice, m)?;
-    let rows = SupplyRows {
-        stock: stock.as_slice(),
-        ..item_rows(&slice.rows).supplies
-    };
-    replan_supplies(alloc, slice, &m.lot.gtin, &rows)
-}
-
-// The stock rows after a move.
-fn stock_rows_moved(alloc: Global, slice: &Slice, m: &Movement) -> Result<Vec<StockRow>, AllocError>
-    ensures { IfOk result (λ v. v.items ≡ stock_rows_moved_lem slice.now m.now) }
-{
-    let rows = slice.rows.stock.as_slice();
-    let left = stock_rows_with(alloc, rows, &m.lot, &m.from, units_left(slice, m))?;
-    stock_rows_with(
-        alloc,
-        left.as_slice(),
-        &m.lot,
-        &m.to,
-        units_brought(slice, m),
-    )
-}
-
-// The stock rows that a move puts.
-fn moved_put(alloc: Global, slice: &Slice, m: &Movement) -> Result<Vec<StockRow>, AllocError>
-    ensures { IfOk result (λ v. v.items ≡ stock_put_lem m.now.lot m.now.to (units_brought_lem slice.now m.now) ++ stock_put_lem m.now.lot m.now.from (units_left_lem slice.now m.now)) }
-{
-    let mut put = stock_put(alloc, &m.lot, &m.to, units_brought(slice, m))?;
-    let left = stock_put(alloc, &m.lot, &m.from, units_left(slice, m))?;
-    put.extend_from_slice(left.as_slice())?;
-    Ok(put)
-}
-
-// The stock row that a move drops, if nothing is left.
-fn moved_gone(alloc: Global, slice: &Slice, m: &Movement) -> Result<Vec<StockRow>, AllocError>
-    ensures { IfOk result (λ v. v.items ≡ stock_gone_lem slice.now.rows.stock m.now.lot m.now.from (units_left_lem slice.now m.now)) }
-{
-    let rows = slice.rows.stock.as_slice();
-    stock_gone(alloc, rows, &m.lot, &m.from, units_left(slice, m))
-}
-
-// What the bin that the units leave has of the lot after a move.
-fn units_left(slice: &Slice, m: &Movement) -> u64
-    ensures { result ≡ units_left_lem slice.now m.now }
-{
-    units_in_bin(slice, &m.from, &m.lot).saturating_sub(u64::from(m.qty.units()))
-}
-
-// What the bin that they come to has of it.
-fn units_brought(slice: &Slice, m: &Movement) -> u64
-    ensures { result ≡ units_brought_lem slice.now m.now }
-{
-    units_in_bin(slice, &m.to, &m.lot).saturating_add(u64::from(m.qty.units()))
+    let units = u64::from(m.qty.units());
+    posted_once(&m.lot, Place::InBin(m.from), Place::InBin(m.to), units)
 }

@@ -17,6 +17,8 @@ use Rattle.commands.specs.declared.replies.ReplyField.TheVariants.{Returned}
 use Rattle.row_rules.specs.Seen.{capped, sees_item, lot_seen, sees_recall, number_seen, meta_after, plain_reply, none_put, none_dropped}
 use Rattle.row_rules.specs.SeenLots.{sees_lot, sees_hold, in_bin_seen, stock_put, stock_rows_with}
 use Rattle.row_rules.specs.Replanning.{item_replanned}
+use Rattle.shelves.specs.declared.changes.Facts.{Facts}
+use Rattle.shelves.specs.PostedChanges.{bins_changes}
 use Rattle.row_rules.specs.declared.slice.Slice.{Slice}
 use Rattle.row_rules.specs.declared.slice.Change.{Change}
 use Rattle.row_rules.specs.declared.replanning.Replanned.{Replanned}
@@ -43,18 +45,11 @@ release_seen s l =
     ∷ (sees_recall s l, LotRecalled)
     ∷ (not (sees_hold s l), LotNotHeld) ∷ []
 
--- what changes of the item's reserved rows
-abbrev pub release_replanned : Slice → LotId → Replanned
-release_replanned s l =
-    item_replanned s s.meta.day s.rows.orders s.rows.lines s.rows.staged (lot_rows_with_hold s l false) s.rows.recalls s.rows.bins s.rows.stock s.rows.least s.rows.urgents l.gtin
+abbrev pub release_facts : Slice → LotId → Facts
+release_facts s l = record { lots = lot_put l false (lot_seen s l); cards = []; text = plain_reply s }
 
 abbrev pub release_changes : Slice → LotId → Change
-release_changes s l = record {
-  meta = meta_after s;
-  put = record none_put { lots = lot_put l false (lot_seen s l); reserved = (release_replanned s l).put };
-  dropped = record none_dropped { reserved = (release_replanned s l).dropped };
-  text = plain_reply s;
-}
+release_changes s l = bins_changes s l.gtin None (lot_rows_with_hold s l false) s.rows.stock (release_facts s l)
 
 -- What is staged of a lot goes to RETURNS, which is a HOLD bin
 

@@ -1,20 +1,19 @@
 //! Lots that are held, released and recalled.
 
-ghost use Rattle.std.specs.Prelude.{◌≡◌, false, map, IfOk};
+ghost use Rattle.std.specs.Prelude.{◌≡◌, map, IfOk};
 ghost use Rattle.machine.specs.Verdict.{first_refusal};
-ghost use Rattle.row_rules.specs.Seen.{meta_after, none_put, none_dropped, plain_reply as plain_reply_lem};
-ghost use Rattle.lot_rules.specs.DecidedHold.{release_seen, release_changes, release_replanned as release_replanned_lem, hold_seen, hold_changes, hold_replanned as hold_replanned_lem, recall_seen, recall_changes, recall_replanned as recall_replanned_lem, new_recall_row as new_recall_row_lem, recall_rows_after as recall_rows_after_lem, with_hold as with_hold_lem, lot_rows_with_hold as lot_rows_with_hold_lem, lot_put as lot_put_lem};
+ghost use Rattle.lot_rules.specs.DecidedHold.{release_seen, release_facts as release_facts_lem, release_changes, hold_seen, hold_changes, hold_replanned as hold_replanned_lem, recall_seen, recall_changes, recall_replanned as recall_replanned_lem, new_recall_row as new_recall_row_lem, recall_rows_after as recall_rows_after_lem, with_hold as with_hold_lem, lot_rows_with_hold as lot_rows_with_hold_lem, lot_put as lot_put_lem};
 
 use crate::returning::{returning_change, returning_replanned};
 use commands::{Listed, LotRow, RecallRow, Refusal};
-use row_rules::change_parts::{meta_next, none_dropped, none_put, number_seen, one, plain_reply};
+use row_rules::change_parts::{number_seen, one, plain_reply};
 use row_rules::first_refusal::first_of;
 use row_rules::goods_seen::{lot_seen, sees_hold, sees_item, sees_recall};
-use row_rules::plans::{SupplyRows, item_rows};
-use row_rules::replanning::{Replanned, replan_supplies};
+use row_rules::replanning::Replanned;
 use row_rules::same::Same;
 use row_rules::stock::sees_lot;
-use row_rules::{Change, Dropped, Put, Slice};
+use row_rules::{Change, Slice};
+use shelves::changes::{Facts, change_in_bins};
 use std::alloc::{AllocError, Global};
 use values::LotId;
 
@@ -105,44 +104,21 @@ pub fn change_release(alloc: Global, slice: &Slice, lot: &LotId) -> Result<Chang
     ensures { IfOk result (λ change. change ≡ release_changes slice.now lot.now) }
 {
     let lots = lot_rows_with_hold(alloc, slice, lot, false)?;
+    let facts = release_facts(alloc, slice, lot)?;
+    let (known, stock) = (lots.as_slice(), slice.rows.stock.as_slice());
+    change_in_bins(alloc, slice, &lot.gtin, &None, known, stock, facts)
+}
+
+// The lot is no longer held.
+fn release_facts(alloc: Global, slice: &Slice, lot: &LotId) -> Result<Facts, AllocError>
+    ensures { IfOk result (λ f. f ≡ release_facts_lem slice.now lot.now) }
+{
     let put = lot_put(alloc, lot, false, lot_seen(slice, lot))?;
-    let reserved = release_replanned(alloc, slice, lot, lots.as_slice())?;
-    Ok(released(alloc, slice, put, reserved))
-}
-
-// The change by these rows.
-fn released(alloc: Global, slice: &Slice, put: Vec<LotRow>, reserved: Replanned) -> Change
-    ensures { result ≡ record { meta = meta_after slice.now; put = record none_put { lots = put.items; reserved = reserved.put }; dropped = record none_dropped { reserved = reserved.dropped }; text = plain_reply_lem slice.now } }
-{
-    Change {
-        meta: meta_next(slice),
-        put: Put {
-            lots: Listed::from_vec(put),
-            reserved: reserved.put,
-            ..none_put(alloc)
-        },
-        dropped: Dropped {
-            reserved: reserved.dropped,
-            ..none_dropped(alloc)
-        },
+    Ok(Facts {
+        lots: Listed::from_vec(put),
+        cards: Listed::from_vec(Vec::new(alloc)),
         text: plain_reply(slice),
-    }
-}
-
-// What a release changes of the reserved rows, where these are the rows of lots after it.
-fn release_replanned(
-    alloc: Global,
-    slice: &Slice,
-    lot: &LotId,
-    lots: &[LotRow],
-) -> Result<Replanned, AllocError>
-    ensures { IfOk result (λ r. lots.now ≡ lot_rows_with_hold_lem slice.now lot.now false → r ≡ release_replanned_lem slice.now lot.now) }
-{
-    let rows = SupplyRows {
-        lots,
-        ..item_rows(&slice.rows).supplies
-    };
-    replan_supplies(alloc, slice, &lot.gtin, &rows)
+    })
 }
 
 // Hold

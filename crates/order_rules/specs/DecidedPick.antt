@@ -1,23 +1,25 @@
 -- What is decided of units picked for an order, and of those put back, by the rows of the slice: the conditions judged, and the rows changed.
-use Rattle.std.specs.Prelude.{◌≡◌, ℕ, ◌+◌, ◌-◌, ◌==◌, Bool, not, nat_lt, if◌then◌else◌, List, [], ◌∷◌, find, None}
+use Rattle.std.specs.Prelude.{◌≡◌, ℕ, ◌-◌, ◌==◌, Bool, not, nat_lt, if◌then◌else◌, List, [], ◌∷◌, Option, find}
 use Rattle.values.specs.Values.{same_text}
 use Rattle.commands.specs.declared.refusal.Refusal.TheVariants.{UnknownItem, UnknownBin, UnknownLot, UnknownOrder, NoSuchLine, LotRecalled, LotExpired, TooFewDays, LotHeld, NotStoreBin, OrderClosed, NotInBin, OverReserved, OverStaged}
 use Rattle.commands.specs.declared.command.Picking.{Picking}
-use Rattle.commands.specs.declared.rows.ReservedRow.{ReservedRow}
 use Rattle.machine.specs.Verdict.{Judgement}
 use Rattle.plan.specs.Changes.{IsPicked}
 use Rattle.plan.specs.Overlap.{reserved_in}
 use Rattle.plan.specs.declared.Row.{Row}
-use Rattle.row_rules.specs.Seen.{capped, sees_item, sees_bin, lot_seen, sees_recall, meta_after, plain_reply, none_put}
+use Rattle.row_rules.specs.Seen.{sees_item, sees_bin, lot_seen, sees_recall}
 use Rattle.row_rules.specs.Status.{is_past_row, is_below_row, least_seen}
 use Rattle.row_rules.specs.SeenOrders.{sees_order, sees_open, sees_line, order_row_seen}
-use Rattle.row_rules.specs.SeenLots.{sees_lot, sees_hold, stock_found, in_bin_seen, stock_put, stock_gone, stock_rows_with}
-use Rattle.row_rules.specs.SeenStages.{reserved_found, reserved_seen, reserved_put, reserved_gone, staged_found, on_stage_seen, staged_put, staged_gone, staged_rows_with}
+use Rattle.row_rules.specs.SeenLots.{sees_lot, sees_hold, stock_found, in_bin_seen}
+use Rattle.row_rules.specs.SeenStages.{reserved_found, reserved_seen, reserved_put, reserved_gone, staged_found, on_stage_seen}
 use Rattle.row_rules.specs.Plans.{is_store_found}
-use Rattle.row_rules.specs.Replanning.{item_replanned}
 use Rattle.row_rules.specs.declared.slice.Slice.{Slice}
 use Rattle.row_rules.specs.declared.slice.Change.{Change}
 use Rattle.row_rules.specs.declared.replanning.Replanned.{Replanned}
+use Rattle.shelves.specs.declared.posting.Place.TheVariants.{InBin, Stage}
+use Rattle.shelves.specs.declared.posting.Posting.{Posting}
+use Rattle.shelves.specs.Told.{told_once}
+use Rattle.shelves.specs.PostedChanges.{no_facts, stock_after, staged_after, replanned_by, changes_by}
 use Rattle.order_rules.specs.declared.pick_seen.UnitsSeen.{UnitsSeen}
 use Rattle.order_rules.specs.declared.pick_seen.PickSeen.{PickSeen}
 
@@ -73,23 +75,6 @@ unpick_seen s p =
     ∷ (not (sees_open s p.order), OrderClosed)
     ∷ (nat_lt (on_stage_seen s p.order p.lot) p.qty, OverStaged) ∷ []
 
--- Changing. Units go from the bin onto the stage, or back: each command says how many of the lot are in the bin and on the
--- stage after it.
-
--- with these reserved rows put and dropped
-abbrev pub changes_with : Slice → Picking → ℕ → ℕ → List ReservedRow → List ReservedRow → Change
-changes_with s p stock staged put dropped = record {
-  meta = meta_after s;
-  put = record none_put { stock = stock_put p.lot p.bin stock; staged = staged_put p.order p.lot staged; reserved = put };
-  dropped = record {
-    stock = stock_gone s.rows.stock p.lot p.bin stock;
-    stage = None;
-    staged = staged_gone s.rows.staged p.order p.lot staged;
-    reserved = dropped;
-  };
-  text = plain_reply s;
-}
-
 -- Units picked are taken from their own reservation, and disturb no other: this much is left of it.
 abbrev pub reserved_left : Slice → Picking → ℕ
 reserved_left s p = reserved_seen s p.order p.lot - p.qty
@@ -102,20 +87,23 @@ one_row b l n = if not (n == 0) then record { booking = b; lot = l; qty = n } �
 abbrev pub IsLeftInPlan : ℕ → ℕ → ℕ → Type 0
 IsLeftInPlan n q left = (b l : ℕ) (after : List Row) → IsPicked b l q (one_row b l n) after → reserved_in b l after ≡ left
 
-abbrev pub pick_changes : Slice → Picking → Change
-pick_changes s p =
-    changes_with s p (in_bin_seen s p.bin p.lot - p.qty) (capped (on_stage_seen s p.order p.lot + p.qty))
-    (reserved_put p.order p.lot (reserved_left s p)) (reserved_gone s.rows.reserved p.order p.lot (reserved_left s p))
+abbrev pub own_lowered : Slice → Picking → Replanned
+own_lowered s p = record { put = reserved_put p.order p.lot (reserved_left s p); dropped = reserved_gone s.rows.reserved p.order p.lot (reserved_left s p) }
 
--- what changes of the item's reserved rows where so many units are in the bin and on the stage
-abbrev pub replanned_with : Slice → Picking → ℕ → ℕ → Replanned
-replanned_with s p stock staged =
-    item_replanned s s.meta.day s.rows.orders s.rows.lines (staged_rows_with p.order p.lot staged s.rows.staged) s.rows.lots s.rows.recalls s.rows.bins (stock_rows_with p.lot p.bin stock s.rows.stock) s.rows.least s.rows.urgents p.lot.gtin
+-- Changing: units go from the bin onto the stage, or back.
+
+abbrev pub pick_told : Picking → Option Posting
+pick_told p = told_once p.lot (InBin p.bin) (Stage p.order) p.qty
+
+abbrev pub unpick_told : Picking → Option Posting
+unpick_told p = told_once p.lot (Stage p.order) (InBin p.bin) p.qty
+
+abbrev pub pick_changes : Slice → Picking → Change
+pick_changes s p = changes_by s (pick_told p) (stock_after s (pick_told p)) (staged_after s (pick_told p)) (own_lowered s p) (no_facts s)
 
 -- where units are put back, the item is planned anew
-abbrev pub unpick_with : Slice → Picking → ℕ → ℕ → Change
-unpick_with s p stock staged =
-    changes_with s p stock staged (replanned_with s p stock staged).put (replanned_with s p stock staged).dropped
-
 abbrev pub unpick_changes : Slice → Picking → Change
-unpick_changes s p = unpick_with s p (capped (in_bin_seen s p.bin p.lot + p.qty)) (on_stage_seen s p.order p.lot - p.qty)
+unpick_changes s p =
+    let stock = stock_after s (unpick_told p) in
+    let staged = staged_after s (unpick_told p) in
+    changes_by s (unpick_told p) stock staged (replanned_by s p.lot.gtin s.rows.lots stock staged) (no_facts s)

@@ -1,28 +1,30 @@
 //! Units that go from a bin onto the stage of an order, and back.
 
-ghost use Rattle.std.specs.Prelude.{◌≡◌, ◌+◌, ◌-◌, ◌==◌, [], if◌then◌else◌, IfOk};
+ghost use Rattle.std.specs.Prelude.{◌≡◌, ◌-◌, ◌==◌, [], if◌then◌else◌, IfOk};
 ghost use Rattle.std.specs.List.{cons_option};
 ghost use Rattle.machine.specs.Verdict.{first_refusal};
-ghost use Rattle.row_rules.specs.Seen.{capped, none_put};
 ghost use Rattle.row_rules.specs.SeenStages.{reserved_qty as reserved_qty_lem, reserved_put as reserved_put_lem};
-ghost use Rattle.order_rules.specs.DecidedPick.{units_found, pick_seen, unpick_seen, pick_changes, unpick_changes, changes_with, IsLeftInPlan, replanned_with as replanned_with_lem};
+ghost use Rattle.shelves.specs.PostedChanges.{replanned_by};
+ghost use Rattle.order_rules.specs.DecidedPick.{pick_seen, unpick_seen, pick_told, unpick_told, pick_changes, unpick_changes, IsLeftInPlan};
 
-use crate::pick_seen::{PickSeen, UnitsSeen};
+use crate::pick_seen::PickSeen;
 use commands::{Listed, Picking, Refusal, ReservedRow, StagedRow, StockRow};
-use row_rules::change_parts::{meta_next, none_put, plain_reply};
 use row_rules::first_refusal::first_of;
 use row_rules::goods_seen::{is_held_row, sees_recall};
 use row_rules::list_parts::row_gone;
 use row_rules::orders_seen::is_open_row;
 use row_rules::plans::{DemandRows, ItemRows, SupplyRows, item_rows};
 use row_rules::replanning::{Replanned, replan_item};
-use row_rules::stages::{reserved_put, reserved_qty, staged_put, staged_qty, staged_rows_with};
+use row_rules::row_search::find_row;
+use row_rules::stages::{reserved_put, reserved_qty, staged_qty};
 use row_rules::status::{is_below, is_past, least_days};
-use row_rules::stock::{stock_put, stock_rows_with, units_of};
+use row_rules::stock::units_of;
 use row_rules::supplies::is_store;
-use row_rules::{Change, Dropped, Put, Slice};
+use row_rules::{Change, Slice};
+use shelves::changes::{changes_by, no_facts, posted_once, staged_posted, stock_posted};
+use shelves::posting::{Place, Posting};
 use std::alloc::{AllocError, Global};
-use values::Qty;
+use values::{Gtin, Qty};
 
 /// The refusal of a picking, if it is refused.
 pub fn judge_pick(slice: &Slice, p: &Picking) -> Option<Refusal>
@@ -81,38 +83,75 @@ pub fn judge_unpick(slice: &Slice, p: &Picking) -> Option<Refusal>
     ])
 }
 
+// What units picked post, and units put back.
+fn pick_posted(p: &Picking) -> Option<Posting>
+    ensures { result ≡ pick_told p.now }
+{
+    let units = u64::from(p.qty.units());
+    posted_once(&p.lot, Place::InBin(p.bin), Place::Stage(p.order), units)
+}
+
+fn unpick_posted(p: &Picking) -> Option<Posting>
+    ensures { result ≡ unpick_told p.now }
+{
+    let units = u64::from(p.qty.units());
+    posted_once(&p.lot, Place::Stage(p.order), Place::InBin(p.bin), units)
+}
+
 /// What a picking changes.
 pub fn change_pick(alloc: Global, slice: &Slice, p: &Picking) -> Result<Change, AllocError>
     ensures { IfOk result (λ change. change ≡ pick_changes slice.now p.now) }
 {
-    let seen = UnitsSeen::of(slice, p);
-    let in_bin = less(units_of(seen.in_bin), p.qty);
-    let staged = more(staged_qty(seen.staged), p.qty);
-    let reserved = own_row_lowered(alloc, &seen, p)?;
-    change_with(alloc, slice, p, &seen, in_bin, staged, reserved)
+    let posting = pick_posted(p);
+    let stock = stock_posted(alloc, slice, &posting)?;
+    let staged = staged_posted(alloc, slice, &posting)?;
+    let own = find_row(slice.rows.reserved.as_slice(), &(p.order, p.lot));
+    let reserved = own_row_lowered(alloc, &own, p)?;
+    let (in_bins, on_stages) = (stock.as_slice(), staged.as_slice());
+    let facts = no_facts(alloc, slice);
+    changes_by(alloc, slice, &posting, in_bins, on_stages, reserved, facts)
 }
 
 /// What units put back change.
 pub fn change_unpick(alloc: Global, slice: &Slice, p: &Picking) -> Result<Change, AllocError>
     ensures { IfOk result (λ change. change ≡ unpick_changes slice.now p.now) }
 {
-    let seen = UnitsSeen::of(slice, p);
-    let in_bin = more(units_of(seen.in_bin), p.qty);
-    let staged = less(staged_qty(seen.staged), p.qty);
-    let reserved = replanned_with(alloc, slice, p, in_bin, staged)?;
-    change_with(alloc, slice, p, &seen, in_bin, staged, reserved)
+    let posting = unpick_posted(p);
+    let stock = stock_posted(alloc, slice, &posting)?;
+    let staged = staged_posted(alloc, slice, &posting)?;
+    let (in_bins, on_stages) = (stock.as_slice(), staged.as_slice());
+    let reserved = replanned_on_stages(alloc, slice, &p.lot.gtin, in_bins, on_stages)?;
+    let facts = no_facts(alloc, slice);
+    changes_by(alloc, slice, &posting, in_bins, on_stages, reserved, facts)
+}
+
+// What changes of the reserved rows of an item with these stock rows and staged rows.
+fn replanned_on_stages(
+    alloc: Global,
+    slice: &Slice,
+    gtin: &Gtin,
+    stock: &[StockRow],
+    staged: &[StagedRow],
+) -> Result<Replanned, AllocError>
+    ensures { IfOk result (λ r. r ≡ replanned_by slice.now gtin.now slice.now.rows.lots stock.now staged.now) }
+{
+    let all = item_rows(&slice.rows);
+    let demands = DemandRows {
+        staged,
+        ..all.demands
+    };
+    let supplies = SupplyRows {
+        stock,
+        ..all.supplies
+    };
+    let rows = ItemRows { demands, supplies };
+    replan_item(alloc, slice, gtin, slice.meta.day, &rows)
 }
 
 fn less(units: u64, qty: Qty) -> u64
     ensures { result ≡ units - qty }
 {
     units.saturating_sub(u64::from(qty.units()))
-}
-
-fn more(units: u64, qty: Qty) -> u64
-    ensures { result ≡ capped (units + qty) }
-{
-    units.saturating_add(u64::from(qty.units()))
 }
 
 // What is left of a reservation from which units are picked: as much as a plan leaves that has it alone.
@@ -124,89 +163,19 @@ fn left_of(reserved: u64, qty: Qty) -> u64
 }
 
 // What units that are picked change of the reserved rows: they are taken from their own row.
-fn own_row_lowered(alloc: Global, seen: &UnitsSeen, p: &Picking) -> Result<Replanned, AllocError>
-    ensures put { IfOk result (λ r. r.put ≡ reserved_put_lem p.now.order p.now.lot (reserved_qty_lem seen.now.reserved - p.now.qty)) }
-    ensures dropped { IfOk result (λ r. r.dropped ≡ if (reserved_qty_lem seen.now.reserved - p.now.qty) == 0 then cons_option seen.now.reserved [] else []) }
+fn own_row_lowered(
+    alloc: Global,
+    own: &Option<ReservedRow>,
+    p: &Picking,
+) -> Result<Replanned, AllocError>
+    ensures put { IfOk result (λ r. r.put ≡ reserved_put_lem p.now.order p.now.lot (reserved_qty_lem own.now - p.now.qty)) }
+    ensures dropped { IfOk result (λ r. r.dropped ≡ if (reserved_qty_lem own.now - p.now.qty) == 0 then cons_option own.now [] else []) }
 {
-    let left = left_of(reserved_qty(seen.reserved), p.qty);
+    let left = left_of(reserved_qty(*own), p.qty);
     let put = reserved_put(alloc, &p.order, &p.lot, left)?;
-    let dropped = row_gone(alloc, seen.reserved, left)?;
+    let dropped = row_gone(alloc, *own, left)?;
     Ok(Replanned {
         put: Listed::from_vec(put),
         dropped: Listed::from_vec(dropped),
     })
-}
-
-// The change after which so many units of the lot are in the bin and on the stage.
-fn change_with(
-    alloc: Global,
-    slice: &Slice,
-    p: &Picking,
-    seen: &UnitsSeen,
-    in_bin: u64,
-    staged: u64,
-    reserved: Replanned,
-) -> Result<Change, AllocError>
-    requires { seen.now ≡ units_found slice.now p.now }
-    ensures { IfOk result (λ change. change ≡ changes_with slice.now p.now in_bin staged reserved.put reserved.dropped) }
-{
-    let stock = stock_put(alloc, &p.lot, &p.bin, in_bin)?;
-    let on_stage = staged_put(alloc, &p.order, &p.lot, staged)?;
-    let stock_gone = row_gone(alloc, seen.in_bin, in_bin)?;
-    let stage_gone = row_gone(alloc, seen.staged, staged)?;
-    Ok(Change {
-        meta: meta_next(slice),
-        put: rows_of(alloc, stock, on_stage, reserved.put),
-        dropped: Dropped {
-            stock: Listed::from_vec(stock_gone),
-            stage: None,
-            staged: Listed::from_vec(stage_gone),
-            reserved: reserved.dropped,
-        },
-        text: plain_reply(slice),
-    })
-}
-
-// These rows and no others.
-fn rows_of(
-    alloc: Global,
-    stock: Vec<StockRow>,
-    staged: Vec<StagedRow>,
-    reserved: Listed<ReservedRow>,
-) -> Put
-    ensures { result ≡ record none_put { stock = stock.items; staged = staged.items; reserved = reserved } }
-{
-    Put {
-        stock: Listed::from_vec(stock),
-        staged: Listed::from_vec(staged),
-        reserved,
-        ..none_put(alloc)
-    }
-}
-
-// What changes of the item's reserved rows where so many units of the lot are in the bin and on the
-// stage.
-fn replanned_with(
-    alloc: Global,
-    slice: &Slice,
-    p: &Picking,
-    in_bin: u64,
-    staged: u64,
-) -> Result<Replanned, AllocError>
-    ensures { IfOk result (λ r. r ≡ replanned_with_lem slice.now p.now in_bin staged) }
-{
-    let before = &slice.rows;
-    let stock = stock_rows_with(alloc, before.stock.as_slice(), &p.lot, &p.bin, in_bin)?;
-    let on_stage = staged_rows_with(alloc, before.staged.as_slice(), &p.order, &p.lot, staged)?;
-    let all = item_rows(before);
-    let demands = DemandRows {
-        staged: on_stage.as_slice(),
-        ..all.demands
-    };
-    let supplies = SupplyRows {
-        stock: stock.as_slice(),
-        ..all.supplies
-    };
-    let rows = ItemRows { demands, supplies };
-    replan_item(alloc, slice, &p.lot.gtin, slice.meta.day, &rows)
 }

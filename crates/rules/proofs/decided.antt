@@ -8,3 +8,4 @@ pub mod picks
 pub mod lots
 pub mod days
 pub mod EveryCommand
+pub mod Posted

@@ -35,7 +35,6 @@ pub mod ItemsNamed
 pub mod NeedsTold
 pub mod StageTold
 pub mod LotStateTold
-pub mod StagedChanged
 pub mod StageUnits
 pub mod DroppedRows
 pub mod ReturnedRows
@@ -43,3 +42,6 @@ pub mod MappedRows
 pub mod HeldLots
 pub mod PutRows
 pub mod LeavingLots
+pub mod Following
+pub mod Changing
+pub mod PostedRows

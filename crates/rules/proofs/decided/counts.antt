@@ -1,6 +1,5 @@
 -- Counts and adjustments.
-pub mod CorrectionStep
-pub mod CorrectionDecided
+pub mod Written
 pub mod CountJudged
 pub mod CountDecided
 pub mod AdjustJudged

@@ -1,9 +1,6 @@
 -- Goods received and moved.
-pub mod ReceiveStep
+pub mod ReceiveLots
 pub mod ReceiveJudged
-pub mod ReceiveTells
 pub mod ReceiveDecided
 pub mod MoveJudged
-pub mod MoveStep
-pub mod MoveTells
 pub mod MovesDecided

@@ -1,24 +1,20 @@
--- Stock rows where the units of one lot in one bin have changed, and what a posting out of a bin or into a bin changes.
-use Rattle.std.proofs.Common.{◌≡◌, ℕ, ◌+◌, ◌-◌, ◌≤◌, Bool, true, false, ◌&&◌, not, List, [], ◌∷◌, ◌++◌, refl, ap, sym, ◌∙◌, arith}
+-- Stock rows where the units of one lot in one bin have changed.
+use Rattle.std.proofs.Common.{◌≡◌, ℕ, Bool, true, false, ◌&&◌, not, List, [], ◌∷◌, ◌++◌, refl, ap, sym, ◌∙◌}
 use Rattle.std.specs.Prelude.{◌==◌, ◌||◌, if◌then◌else◌, ℤ, Option, Some, None, filter}
 use Rattle.std.specs.List.{list_any, cons_option}
 use Rattle.values.specs.Values.{same_text}
 use Rattle.values.specs.declared.lot.LotId.{LotId}
 use Rattle.commands.specs.declared.rows.StockRow.{StockRow}
 use Rattle.machine.specs.Acts.{Act}
-use Rattle.machine.specs.Postings.{Place, InBin, balance, is_lot, is_bin}
-use Rattle.machine.specs.Ledger.{posting, postings}
+use Rattle.machine.specs.Postings.{is_lot}
 use Rattle.machine.specs.Planning.{in_bin}
 use Rattle.machine.specs.Tables.{if_any, stock_row}
 use Rattle.machine.specs.KeyedRows.{AreRows, LotBin, same_cell}
 use Rattle.rules.specs.Slices.{changed}
 use Rattle.row_rules.specs.SeenLots.{stock_found, stock_put, stock_gone, stock_rows_with}
-use Rattle.machine.proofs.Tests.{or_false, same_text_refl, is_lot_refl, or_later}
+use Rattle.machine.proofs.Tests.{or_false, or_later}
 use Rattle.machine.proofs.Apart.{none_in_filter}
-use Rattle.machine.proofs.histories.Cells.{Legal, CanTake}
-use Rattle.machine.proofs.histories.Balances.{bin_balance-posted}
 use Rattle.rules.proofs.rows.SameKeys.{same_cell_is, same_cell_refl, same_cell_turned}
-use Rattle.machine.proofs.histories.PlaceRows.{and_turned}
 use Rattle.rules.proofs.rows.AfterRows.{rows_after, put_one}
 use Rattle.rules.proofs.rows.WithoutRows.{rows_without}
 
@@ -91,40 +87,3 @@ module _ (first : ℤ) (acts after : List Act) (l : LotId) (b : List ℕ) (q : �
     | true ↦ λ t. ap (λ n. if_any n (units_row l b q n)) (sym here) ∙ ap (λ (x : LotBin). stock_row first after x.0 x.1) (sym (same_cell_is k (l, b) t))
     | false ↦ λ t. ap (λ n. if_any n (record { lot = k.0; bin = k.1; qty = n })) (sym (elsewhere k.0 k.1 t))
   ] refl
-
-module _ (first : ℤ) (acts after : List Act) (n : ℕ) (l : LotId) (b : List ℕ) (q : ℕ) (legal : Legal (postings first acts)) where
-  own_cell : same_text b b && is_lot l l ≡ true
-  own_cell = λ i. same_text_refl b i && is_lot_refl l i
-
-  other_cell : (m : LotId) (c : List ℕ) → same_cell (m, c) (l, b) ≡ false → same_text c b && is_lot m l ≡ false
-  other_cell m c e = and_turned (same_text c b) (is_lot m l) ∙ e
-
-  none_there : (a t : Bool) → a ≡ false → (if a && t then q else 0) ≡ 0
-  none_there true t e = let f : true ≡ false = e in cc
-  none_there false t e = refl
-
-  -- units that go out of a bin, to a place that is none
-  module _ (to : Place) (posts : postings first after ≡ posting n l (InBin b) to q ++ postings first acts) (no_bin : (c : List ℕ) → is_bin c to ≡ false) (there : q ≤ in_bin first acts b l) where
-    out_of_cell : (m : LotId) (c : List ℕ) → in_bin first after c m + (if same_text c b && is_lot m l then q else 0) ≡ in_bin first acts c m
-    out_of_cell m c =
-        let e = bin_balance-posted c m n l (InBin b) to q (postings first acts) there legal in
-        ap (λ ps. balance (is_bin c) (is_lot m) ps + (if same_text c b && is_lot m l then q else 0)) posts ∙ omega (arith, e, none_there (is_bin c to) (is_lot m l) (no_bin c))
-
-    pub taken_out : in_bin first after b l ≡ in_bin first acts b l - q
-    taken_out = let e = out_of_cell l b in let f = ap (λ t. if t then q else 0) own_cell in omega (arith, e, f)
-
-    pub taken_elsewhere : (m : LotId) (c : List ℕ) → same_cell (m, c) (l, b) ≡ false → in_bin first after c m ≡ in_bin first acts c m
-    taken_elsewhere m c h = let e = out_of_cell m c in let f = ap (λ t. if t then q else 0) (other_cell m c h) in omega (arith, e, f)
-
-  -- units that come into a bin, from a place that is none
-  module _ (from : Place) (posts : postings first after ≡ posting n l from (InBin b) q ++ postings first acts) (no_bin : (c : List ℕ) → is_bin c from ≡ false) (there : CanTake from l q (postings first acts)) where
-    into_cell : (m : LotId) (c : List ℕ) → in_bin first after c m ≡ in_bin first acts c m + (if same_text c b && is_lot m l then q else 0)
-    into_cell m c =
-        let e = bin_balance-posted c m n l from (InBin b) q (postings first acts) there legal in
-        ap (λ ps. balance (is_bin c) (is_lot m) ps) posts ∙ omega (arith, e, none_there (is_bin c from) (is_lot m l) (no_bin c))
-
-    pub brought_in : in_bin first after b l ≡ in_bin first acts b l + q
-    brought_in = let e = into_cell l b in let f = ap (λ t. if t then q else 0) own_cell in omega (arith, e, f)
-
-    pub brought_elsewhere : (m : LotId) (c : List ℕ) → same_cell (m, c) (l, b) ≡ false → in_bin first after c m ≡ in_bin first acts c m
-    brought_elsewhere m c h = let e = into_cell m c in let f = ap (λ t. if t then q else 0) (other_cell m c h) in omega (arith, e, f)

@@ -7,8 +7,5 @@ returns-clause-lot c = search rules
 pub returns-clause-bin : goal.returns-clause-bin
 returns-clause-bin c = search rules
 
-pub returns-clause-left : goal.returns-clause-left
-returns-clause-left c = search rules
-
 pub returns-clause-change : goal.returns-clause-change
 returns-clause-change c = search rules

@@ -1,20 +1,17 @@
-use Rattle.std.proofs.Common.{[], ◌∷◌, ap, ◌∙◌}
-use Rattle.commands.specs.declared.rows.CardRow.{CardRow}
-use Rattle.commands.specs.declared.rows.StockRow.{StockRow}
-use Rattle.row_rules.specs.Seen.{meta_after, none_put, none_dropped, plain_reply}
+use Rattle.std.proofs.Common.{◌∙◌}
+use Rattle.row_rules.proofs.Making.{made_same}
+use Rattle.shelves.specs.PostedChanges.{stock_after, bins_changes}
+use Rattle.goods_rules.specs.DecidedReceive.{receive_facts, receive_changes}
 use Rattle.goods_rules.proofs.goods.change_receive.Goals as goal
 
 pub returns : goal.returns
 returns c =
     let s = c.args.slice.now in
-    let stock = c.in_ok-stock.ensures in
-    let cards = c.in_ok-cards.ensures ∙ ap (λ (k : CardRow). k ∷ []) (c.receive_card.ensures (c.as_slice.ensures.value ∙ stock)) in
-    let reserved = c.in_ok-reserved.ensures (c.as_slice-2.ensures.value ∙ stock) in
-    let row = c.in_ok-put.ensures ∙ ap (λ (q : StockRow). q ∷ []) c.stock_after.ensures in
-    c.received.ensures
-    ∙ (λ i. record {
-      meta = meta_after s;
-      put = record none_put { lots = c.in_ok-lots.ensures i; stock = row i; reserved = (reserved i).put; cards = cards i };
-      dropped = record none_dropped { reserved = (reserved i).dropped };
-      text = plain_reply s;
-    })
+    let key = c.args.key.now in
+    let r = c.args.r.now in
+    let told = c.receive_posted-posting.ensures in
+    let stock = c.as_slice-in_bins.ensures.value ∙ c.in_ok-stock.ensures ∙ (λ i. stock_after s (told i)) in
+    let lots = c.as_slice-known.ensures.value ∙ c.in_ok-lots.ensures in
+    let facts = c.in_ok-facts.ensures ∙ (λ i. receive_facts s key r (stock i)) in
+    made_same c.change_in_bins.result _ (receive_changes s key r) c.change_in_bins.ensures
+    (λ i. bins_changes s r.lot.gtin (told i) (lots i) (stock i) (facts i))

@@ -1,21 +1,23 @@
-use Rattle.std.proofs.Common.{◌+◌, ◌-◌, ◌∙◌, []}
-use Rattle.std.specs.Prelude.{◌==◌, if◌then◌else◌}
+use Rattle.std.proofs.Common.{◌-◌, ◌&&◌, ◌∙◌, []}
+use Rattle.std.specs.Prelude.{◌==◌, if◌then◌else◌, find}
 use Rattle.std.specs.List.{cons_option}
-use Rattle.row_rules.specs.Seen.{capped, stock_qty}
-use Rattle.row_rules.specs.SeenStages.{staged_qty, reserved_qty, reserved_put}
+use Rattle.values.specs.Values.{same_text}
+use Rattle.machine.specs.Postings.{is_lot}
+use Rattle.row_rules.specs.SeenStages.{reserved_qty, reserved_put}
 use Rattle.row_rules.proofs.Making.{made_same}
-use Rattle.order_rules.specs.DecidedPick.{changes_with, pick_changes}
+use Rattle.shelves.specs.PostedChanges.{stock_after, staged_after, changes_by}
+use Rattle.order_rules.specs.DecidedPick.{pick_changes}
 use Rattle.order_rules.proofs.picking.change_pick.Goals as goal
 
 pub returns : goal.returns
 returns c =
     let s = c.args.slice.now in
     let p = c.args.p.now in
-    let seen = c.of-seen.ensures in
-    let units = c.units_of.ensures ∙ (λ i. stock_qty (seen i).in_bin) in
-    let on_stage = c.staged_qty.ensures ∙ (λ i. staged_qty (seen i).staged) in
-    let in_bin = c.less-in_bin.ensures ∙ (λ i. units i - p.qty) in
-    let staged = c.more-staged.ensures ∙ (λ i. capped (on_stage i + p.qty)) in
-    let put = c.in_ok-reserved.ensures.put ∙ (λ i. reserved_put p.order p.lot (reserved_qty (seen i).reserved - p.qty)) in
-    let gone = c.in_ok-reserved.ensures.dropped ∙ (λ i. if (reserved_qty (seen i).reserved - p.qty) == 0 then cons_option (seen i).reserved [] else []) in
-    made_same c.change_with.result _ (pick_changes s p) c.change_with.ensures (λ i. changes_with s p (in_bin i) (staged i) (put i) (gone i))
+    let told = c.pick_posted-posting.ensures in
+    let stock = c.as_slice-in_bins.ensures.value ∙ c.in_ok-stock.ensures ∙ (λ i. stock_after s (told i)) in
+    let staged = c.as_slice-on_stages.ensures.value ∙ c.in_ok-staged.ensures ∙ (λ i. staged_after s (told i)) in
+    let own = c.find_row-own.ensures ∙ (λ i. find (λ r. same_text p.order r.order && is_lot p.lot r.lot) (c.as_slice.ensures i)) in
+    let put = c.in_ok-reserved.ensures.put ∙ (λ i. reserved_put p.order p.lot (reserved_qty (own i) - p.qty)) in
+    let gone = c.in_ok-reserved.ensures.dropped ∙ (λ i. if (reserved_qty (own i) - p.qty) == 0 then cons_option (own i) [] else []) in
+    made_same c.changes_by.result _ (pick_changes s p) c.changes_by.ensures
+    (λ i. changes_by s (told i) (stock i) (staged i) (record { put = put i; dropped = gone i }) (c.no_facts-facts.ensures i))

@@ -1,19 +1,16 @@
-use Rattle.std.proofs.Common.{◌+◌, ◌-◌, ◌∙◌}
-use Rattle.row_rules.specs.Seen.{capped, stock_qty}
-use Rattle.row_rules.specs.SeenStages.{staged_qty}
+use Rattle.std.proofs.Common.{◌∙◌}
 use Rattle.row_rules.proofs.Making.{made_same}
-use Rattle.order_rules.specs.DecidedPick.{changes_with, replanned_with, unpick_changes}
+use Rattle.shelves.specs.PostedChanges.{stock_after, staged_after, replanned_by, changes_by}
+use Rattle.order_rules.specs.DecidedPick.{unpick_changes}
 use Rattle.order_rules.proofs.picking.change_unpick.Goals as goal
 
 pub returns : goal.returns
 returns c =
     let s = c.args.slice.now in
     let p = c.args.p.now in
-    let reserved = c.in_ok-reserved.ensures in
-    let units = c.units_of.ensures ∙ (λ i. stock_qty (c.of-seen.ensures i).in_bin) in
-    let on_stage = c.staged_qty.ensures ∙ (λ i. staged_qty (c.of-seen.ensures i).staged) in
-    let in_bin = c.more-in_bin.ensures ∙ (λ i. capped (units i + p.qty)) in
-    let staged = c.less-staged.ensures ∙ (λ i. on_stage i - p.qty) in
-    made_same c.change_with.result _ (unpick_changes s p) c.change_with.ensures
-    ((λ i. changes_with s p c.more-in_bin.result c.less-staged.result (reserved i).put (reserved i).dropped)
-    ∙ (λ i. changes_with s p (in_bin i) (staged i) (replanned_with s p (in_bin i) (staged i)).put (replanned_with s p (in_bin i) (staged i)).dropped))
+    let told = c.unpick_posted-posting.ensures in
+    let stock = c.as_slice-in_bins.ensures.value ∙ c.in_ok-stock.ensures ∙ (λ i. stock_after s (told i)) in
+    let staged = c.as_slice-on_stages.ensures.value ∙ c.in_ok-staged.ensures ∙ (λ i. staged_after s (told i)) in
+    let reserved = c.in_ok-reserved.ensures ∙ (λ i. replanned_by s p.lot.gtin s.rows.lots (stock i) (staged i)) in
+    made_same c.changes_by.result _ (unpick_changes s p) c.changes_by.ensures
+    (λ i. changes_by s (told i) (stock i) (staged i) (reserved i) (c.no_facts-facts.ensures i))

@@ -18,13 +18,13 @@ use Rattle.goods_rules.specs.DecidedCount.{SIGNED_CAP, found_less, count_seen, c
 use Rattle.row_rules.specs.declared.slice.Slice.{Slice}
 use Rattle.row_rules.specs.declared.slice.Change.{Change}
 use Rattle.row_rules.specs.declared.slice.RuleFault.{RuleFault}
-use Rattle.machine.proofs.Tests.{same_text_refl}
+use Rattle.machine.proofs.Tests.{is_lot_refl, same_text_refl}
 use Rattle.rules.proofs.rows.LotUnits.{bin_within_limit}
 use Rattle.rules.proofs.rows.LotTold.{in_bin_told}
+use Rattle.rules.proofs.rows.PostedRows.{puts_none}
 use Rattle.rules.proofs.decided.Decisions.{AreRight, IsChange}
 use Rattle.rules.proofs.decided.counts.CountJudged.{count_judged}
-use Rattle.rules.proofs.decided.counts.CorrectionStep.{Writes}
-use Rattle.rules.proofs.decided.counts.CorrectionDecided.{written_changed}
+use Rattle.rules.proofs.decided.counts.Written.{Writes, written_as, written_changed}
 
 -- What a difference puts on and takes off
 
@@ -55,17 +55,16 @@ module _ (first : ℤ) (acts : List Act) (key : Key) (c : Recount) (s : Slice) (
   abbrev change : ℤ
   change = pos c.qty -ℤ pos have
 
-  count_writes : Writes first act acts c.lot c.bin change c.qty
+  count_writes : Writes first act acts c.lot c.bin change
   count_writes = record {
-    posts = λ i. posting (next_number acts) c.lot WriteOff (InBin c.bin) (sym (put_on_less c.qty have) i) ++ posting (next_number acts) c.lot (InBin c.bin) WriteOff (sym (taken_off_less c.qty have) i);
-    there = omega (arith, taken_off_less c.qty have);
-    left_is = omega (arith, put_on_less c.qty have, taken_off_less c.qty have);
-    known = record { items = refl; bins = refl; lots = refl; holds = refl; recalls = refl; orders = refl; cancels = refl; shipments = refl; day = refl; asked = refl };
+    posts = (λ i. posting (next_number acts) c.lot WriteOff (InBin c.bin) (sym (put_on_less c.qty have) i) ++ posting (next_number acts) c.lot (InBin c.bin) WriteOff (sym (taken_off_less c.qty have) i)) ∙ sym (written_as (next_number acts) c.lot c.bin change);
+    known = record { items = refl; bins = refl; recalls = refl; orders = refl; cancels = refl; shipments = refl; day = refl; asked = refl };
+    lots = puts_none acts act refl refl;
     text = refl;
     touched = λ g. refl;
     planned = refl;
-    named = λ b. refl;
-    named_lot = λ m. refl;
+    named = same_text_refl c.bin;
+    named_lot = is_lot_refl c.lot;
   }
 
   small : min have SIGNED_CAP ≡ have
@@ -75,7 +74,7 @@ module _ (first : ℤ) (acts : List Act) (key : Key) (c : Recount) (s : Slice) (
   found_same = ap (found_less c.qty) (in_bin_told first acts act s slice refl c.bin c.lot (same_text_refl c.lot.gtin)) ∙ ap (λ n. pos c.qty -ℤ pos n) small
 
   count_changed : IsChange first act acts (count_changes s c)
-  count_changed = subst (λ (z : ℤ). IsChange first act acts (corrections s c.lot c.bin c.qty z)) (sym found_same) (written_changed first acts act s slice next c.lot c.bin change c.qty count_writes)
+  count_changed = subst (λ (z : ℤ). IsChange first act acts (corrections s c.lot c.bin z)) (sym found_same) (written_changed first acts act s slice next c.lot c.bin change count_writes)
 
 pub counts_right : (key : Key) (s : Slice) (result : Result Change RuleFault) (c : Recount) → AreRight key s result (Count c) (count_seen s c) (count_changes s c)
 counts_right key s result c first acts history slice = record { judged = count_judged first acts key c s slice history; changed = λ ok next. count_changed first acts key c s slice next }

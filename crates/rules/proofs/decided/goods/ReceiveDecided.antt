@@ -1,38 +1,40 @@
 -- Receipts are decided as the machine decides them.
-use Rattle.std.proofs.Common.{◌≡◌, ℕ, true, List, [], ◌∷◌, refl, ap, ◌∙◌}
-use Rattle.std.specs.Prelude.{ℤ, Option, Some, None, Result, find, pos}
+use Rattle.std.proofs.Common.{◌≡◌, ℕ, ◌≤◌, true, false, ◌&&◌, List, [], ◌∷◌, refl, ap, sym, ◌∙◌, arith}
+use Rattle.std.specs.Prelude.{◌==◌, if◌then◌else◌, ℤ, Result, pos, flat_map, nat_le, length}
+use Rattle.std.proofs.lemmas.Bool.Decides.{nat_tests}
+use Rattle.values.specs.Values.{is_name, is_qty}
+use Rattle.label.specs.Days.{is_day}
+use Rattle.commands.specs.Sound.{is_lot_id}
+use Rattle.commands.specs.declared.limits.TheConstants.{ACTS_MAX}
 use Rattle.commands.specs.declared.key.Key.{Key}
 use Rattle.commands.specs.declared.command.Receipt.{Receipt}
 use Rattle.commands.specs.declared.command.Command.TheVariants.{Receive}
 use Rattle.commands.specs.declared.rows.CardKind.TheVariants.{Receipt as ReceiptCard}
-use Rattle.commands.specs.declared.rows.LotRow.{LotRow}
-use Rattle.commands.specs.declared.rows.ReservedRow.{ReservedRow}
-use Rattle.machine.specs.Acts.{Act}
-use Rattle.machine.specs.Postings.{is_lot, of_item}
-use Rattle.machine.specs.Cards.{delivery_note}
+use Rattle.commands.specs.declared.rows.CardRow.{CardRow}
+use Rattle.commands.specs.declared.rows.StockRow.{StockRow}
+use Rattle.machine.specs.Acts.{Act, next_number}
+use Rattle.machine.specs.Postings.{Supplier, InBin, of_item}
+use Rattle.machine.specs.Standing.{today}
+use Rattle.machine.specs.Cards.{card_lines, delivery_note, lot_units_in_house}
 use Rattle.machine.specs.Once.{IsHistory}
 use Rattle.machine.specs.Tables.{tables_of}
-use Rattle.machine.specs.KeyedRows.{no_two}
-use Rattle.rules.specs.Slices.{IsSlice, applied}
-use Rattle.row_rules.specs.Seen.{none_put, none_dropped, plain_reply, lot_units}
-use Rattle.goods_rules.specs.DecidedReceive.{receive_seen, receive_replanned, receive_changes, lot_rows_after, stock_rows_after, lots_if_new, new_lot_row}
+use Rattle.rules.specs.Slices.{IsSlice}
+use Rattle.row_rules.specs.Seen.{lot_units}
 use Rattle.row_rules.specs.declared.slice.Slice.{Slice}
 use Rattle.row_rules.specs.declared.slice.Change.{Change}
 use Rattle.row_rules.specs.declared.slice.RuleFault.{RuleFault}
-use Rattle.machine.proofs.Tests.{same_text_refl, same_text_turned, is_lot_item}
+use Rattle.shelves.specs.declared.posting.Place.TheVariants as told
+use Rattle.shelves.specs.PostedChanges.{stock_after, staged_after}
+use Rattle.goods_rules.specs.DecidedReceive.{receive_seen, receive_told, receive_card, receive_facts, receive_changes, lot_rows_after}
+use Rattle.machine.proofs.Tests.{and_both, same_text_refl, is_lot_refl, is_lot_item}
 use Rattle.machine.proofs.histories.Accepted.{room_for_acts}
-use Rattle.rules.proofs.rows.TableSteps.{AreNamed, names_changed, reserved_changed}
-use Rattle.rules.proofs.rows.replanned.OneItem.{TouchesOnly, replanned, replanned_once}
+use Rattle.machine.proofs.histories.Quantities.{at_least_one}
 use Rattle.rules.proofs.rows.LotUnits.{lot_units_told}
-use Rattle.rules.proofs.rows.DaysAsked.{earliest_told}
-use Rattle.rules.proofs.decided.Decisions.{AreRight, IsChange, day_seen, number_same, plain_same, meta_same}
+use Rattle.rules.proofs.rows.PostedRows.{each_once}
+use Rattle.rules.proofs.decided.Decisions.{AreRight, IsChange, day_seen, number_same, plain_same}
+use Rattle.rules.proofs.decided.Posted.{IsOwn, IsPosted, IsPlanned, AreFacts, stays_staged, posted_once, planned_changed, stock_then, staged_then}
 use Rattle.rules.proofs.decided.goods.ReceiveJudged.{receive_judged}
-use Rattle.rules.proofs.decided.goods.ReceiveStep.{new_card, receive_change, receive_step}
-use Rattle.rules.proofs.decided.goods.ReceiveTells.{some_received, legal_before, demands_after, supplies_after, lots_same, stock_same}
-
-lots_once : (x : Option LotRow) (row : LotRow) → no_two (λ (a b : LotRow). is_lot a.lot b.lot) (lots_if_new x row) ≡ true
-lots_once None row = refl
-lots_once (Some k) row = refl
+use Rattle.rules.proofs.decided.goods.ReceiveLots.{puts_lots, lots_after}
 
 module _ (first : ℤ) (acts : List Act) (key : Key) (r : Receipt) (s : Slice) (slice : IsSlice first (record { key = key; command = Receive r }) acts (tables_of first acts) s)
     (next : IsHistory first (record { key = key; command = Receive r } ∷ acts)) where
@@ -45,77 +47,48 @@ module _ (first : ℤ) (acts : List Act) (key : Key) (r : Receipt) (s : Slice) (
   abbrev g : List ℕ
   g = r.lot.gtin
 
-  -- The rows that are reserved after the act
+  room : nat_le ACTS_MAX (length acts) ≡ false
+  room = room_for_acts first acts (Receive r) next.1.passes
 
-  abbrev puts : List ReservedRow
-  puts = (receive_replanned s r).put
+  posted : IsPosted first acts act (receive_told r)
+  posted = posted_once first acts act next r.lot told.Supplier (told.InBin r.bin) r.qty refl refl refl (record { items = refl; bins = refl; recalls = refl; orders = refl; cancels = refl; shipments = refl; day = refl; asked = refl })
 
-  abbrev drops : List ReservedRow
-  drops = (receive_replanned s r).dropped
+  planned : IsPlanned first acts act g
+  planned = record {
+    own = each_once (IsOwn (Receive r) g) (next_number acts) r.lot Supplier (InBin r.bin) r.qty (record { of_own = same_text_refl g; lot = is_lot_refl r.lot; from_named = refl; to_named = same_text_refl r.bin });
+    planned = refl;
+    touches = λ h. refl;
+  }
 
-  only : TouchesOnly first acts act s slice refl next g
-  only = record { own = same_text_refl g; others = λ h e. same_text_turned h g ∙ e }
+  stays : staged_after s (receive_told r) ≡ s.rows.staged
+  stays = stays_staged r.lot told.Supplier (told.InBin r.bin) r.qty s.rows.staged refl refl
 
-  are_named : AreNamed first act acts puts drops
-  are_named =
-      replanned first acts act s slice refl next g only s.meta.day s.rows.least (earliest_told first acts act s slice refl next.0 g only.own) s.rows.orders s.rows.lines s.rows.staged s.rows.urgents (lot_rows_after s r) s.rows.recalls s.rows.bins (stock_rows_after s r)
-      (demands_after first acts key r s slice next) (supplies_after first acts key r s slice next)
+  -- The card line
 
-  -- The change is that of the act
+  abbrev stock : List StockRow
+  stock = stock_after s (receive_told r)
 
-  rest_same : lot_units r.lot (stock_rows_after s r) s.rows.staged ≡ (new_card first acts key r (plain_reply s) (some_received first acts key r s slice next) (legal_before first acts key r s slice next)).rest
+  rest_same : lot_units r.lot stock s.rows.staged ≡ lot_units_in_house first after r.lot
   rest_same =
-      lot_units_told first after next g r.lot (same_text_refl g) (stock_rows_after s r) s.rows.staged (λ k. of_item g k.0) (λ k. true) (λ k. of_item g k.1) (λ k. true)
-      (supplies_after first acts key r s slice next).stock (demands_after first acts key r s slice next).staged (λ m b e. is_lot_item r.lot m e) (λ m o e. is_lot_item r.lot m e)
+      lot_units_told first after next g r.lot (same_text_refl g) stock s.rows.staged (λ k. of_item g k.0) (λ k. true) (λ k. of_item g k.1) (λ k. true)
+      (stock_then first acts act s slice next (receive_told r) posted g planned s.rows.staged stays) (staged_then first acts act s slice next (receive_told r) posted g planned s.rows.staged stays) (λ m c e. is_lot_item r.lot m e) (λ m o e. is_lot_item r.lot m e)
 
-  changes_same : receive_changes s key r ≡ receive_change first acts key r (plain_reply s) (some_received first acts key r s slice next) (legal_before first acts key r s slice next) puts drops
-  changes_same =
-      let room = room_for_acts first acts (Receive r) next.1.passes in
-      λ i. record {
-        meta = meta_same first acts act s slice room refl refl i;
-        put = record none_put {
-          lots = lots_same first acts key r s slice next i;
-          stock = stock_same first acts key r s slice next i ∷ [];
-          reserved = puts;
-          cards = record {
-            lot = r.lot;
-            act = number_same first acts act s slice room i;
-            day = day_seen first acts act s slice i;
-            kind = ReceiptCard;
-            note = delivery_note key;
-            qty = pos r.qty;
-            rest = rest_same i;
-          } ∷ [];
-        };
-        dropped = record none_dropped { reserved = drops };
-        text = plain_reply s;
-      }
+  card_same : receive_card s key r stock ≡ record { lot = r.lot; act = next_number acts; day = today first acts; kind = ReceiptCard; note = delivery_note key; qty = pos r.qty; rest = lot_units_in_house first after r.lot }
+  card_same = λ i. record { lot = r.lot; act = number_same first acts act s slice room i; day = day_seen first acts act s slice i; kind = ReceiptCard; note = delivery_note key; qty = pos r.qty; rest = rest_same i }
+
+  some : (r.qty == 0) ≡ false
+  some = let one : 1 ≤ r.qty = at_least_one r.qty (and_both (is_lot_id r.lot && is_day r.expiry && is_name r.bin) (is_qty r.qty) next.1.sound.command).1 in grind (arith, nat_tests, one)
+
+  facts : AreFacts first acts act (receive_facts s key r stock)
+  facts = record {
+    lots = puts_lots first acts key r s slice next;
+    cards = ap (λ t. flat_map (λ p. card_lines first act acts p p.from p.to) (if t then [] else record { act = next_number acts; lot = r.lot; from = Supplier; to = InBin r.bin; qty = r.qty } ∷ [])) some ∙ ap (λ (c : CardRow). c ∷ []) (sym card_same);
+    cards_once = refl;
+    text = plain_same first acts act s slice room refl;
+  }
 
   receive_changed : IsChange first act acts (receive_changes s key r)
-  receive_changed = record {
-    applies = ap (λ c. applied c (tables_of first acts)) changes_same
-        ∙ receive_step first acts key r (plain_reply s) (some_received first acts key r s slice next) (legal_before first acts key r s slice next) puts drops (reserved_changed first act acts puts drops are_named);
-    text = plain_same first acts act s slice (room_for_acts first acts (Receive r) next.1.passes) refl;
-    once = record {
-      items = refl;
-      bins = refl;
-      lots = lots_once (find (λ k. is_lot r.lot k.lot) s.rows.lots) (new_lot_row s r);
-      recalls = refl;
-      stock = refl;
-      orders = refl;
-      lines = refl;
-      staged = refl;
-      reserved =
-          replanned_once first acts act s slice refl next g only s.meta.day s.rows.least (earliest_told first acts act s slice refl next.0 g only.own) s.rows.orders s.rows.lines s.rows.staged s.rows.urgents (lot_rows_after s r) s.rows.recalls s.rows.bins (stock_rows_after s r)
-          (demands_after first acts key r s slice next) (supplies_after first acts key r s slice next);
-      shipments = refl;
-      shiplines = refl;
-      cards = refl;
-      least = refl;
-      urgents = refl;
-    };
-    named = names_changed first act acts (receive_changes s key r) are_named;
-  }
+  receive_changed = planned_changed first acts act s slice next (receive_told r) posted g planned s.rows.staged stays (lot_rows_after s r) (lots_after first acts key r s slice next) (receive_facts s key r stock) facts
 
 pub receives_right : (key : Key) (s : Slice) (result : Result Change RuleFault) (r : Receipt) → AreRight key s result (Receive r) (receive_seen s r) (receive_changes s key r)
 receives_right key s result r first acts history slice = record { judged = receive_judged first acts key r s slice history; changed = λ ok next. receive_changed first acts key r s slice next }

@@ -1,44 +1,45 @@
 -- Pickings are decided as the machine decides them.
-use Rattle.std.proofs.Common.{◌≡◌, ℕ, ◌+◌, ◌-◌, ◌≤◌, ◌<◌, Bool, true, false, ◌&&◌, List, ◌∷◌, refl, ap, sym, subst, ◌∙◌, arith}
-use Rattle.std.specs.Prelude.{if◌then◌else◌, ℤ, Result}
-use Rattle.values.specs.Values.{same_text, QTY_MAX, is_name, is_qty}
+use Rattle.std.proofs.Common.{◌≡◌, ℕ, ◌+◌, ◌-◌, ◌≤◌, ◌<◌, Bool, true, false, ◌&&◌, List, [], ◌∷◌, refl, ap, sym, subst, ◌∙◌, arith}
+use Rattle.std.specs.Prelude.{◌==◌, ◌||◌, if◌then◌else◌, ℤ, Result}
+use Rattle.values.specs.Values.{same_text, is_name, is_qty}
 use Rattle.values.specs.declared.lot.LotId.{LotId}
 use Rattle.commands.specs.Sound.{is_lot_id}
 use Rattle.commands.specs.declared.key.Key.{Key}
 use Rattle.commands.specs.declared.command.Picking.{Picking}
 use Rattle.commands.specs.declared.command.Command.TheVariants.{Pick}
 use Rattle.commands.specs.declared.rows.ReservedRow.{ReservedRow}
+use Rattle.commands.specs.declared.rows.StockRow.{StockRow}
+use Rattle.commands.specs.declared.rows.StagedRow.{StagedRow}
 use Rattle.machine.specs.Acts.{Act, next_number}
 use Rattle.machine.specs.Postings.{InBin, Stage, is_lot}
-use Rattle.machine.specs.Ledger.{postings}
+use Rattle.machine.specs.Ledger.{posting}
 use Rattle.machine.specs.Planning.{in_bin, staged_of_lot, reserved}
 use Rattle.machine.specs.Once.{IsHistory}
-use Rattle.machine.specs.Tables.{tables_of}
+use Rattle.machine.specs.Tables.{tables_of, stock_row, staged_row}
+use Rattle.machine.specs.KeyedRows.{LotBin, OrderLot, same_cell, same_share}
 use Rattle.rules.specs.Slices.{IsSlice}
-use Rattle.row_rules.specs.Seen.{capped}
-use Rattle.row_rules.specs.SeenLots.{in_bin_seen}
-use Rattle.row_rules.specs.SeenStages.{on_stage_seen, reserved_found, reserved_put, reserved_gone}
-use Rattle.order_rules.specs.DecidedPick.{pick_seen, pick_changes, reserved_left}
+use Rattle.shelves.specs.PostedChanges.{no_facts, staged_after}
+use Rattle.row_rules.specs.SeenStages.{reserved_found, reserved_put, reserved_gone}
+use Rattle.order_rules.specs.DecidedPick.{pick_seen, pick_told, pick_changes, reserved_left, own_lowered}
 use Rattle.row_rules.specs.declared.slice.Slice.{Slice}
 use Rattle.row_rules.specs.declared.slice.Change.{Change}
 use Rattle.row_rules.specs.declared.slice.RuleFault.{RuleFault}
-use Rattle.machine.proofs.Tests.{and_both, same_text_is, same_text_refl, is_lot_is, is_lot_refl}
-use Rattle.machine.proofs.histories.Accepted.{pick_accepted}
-use Rattle.machine.proofs.histories.Cells.{Legal}
-use Rattle.machine.proofs.histories.LegalHistories.{legal_history}
+use Rattle.shelves.specs.declared.posting.Place.TheVariants as told
+use Rattle.shelves.specs.Shelf.{bins, stages}
+use Rattle.machine.proofs.Tests.{and_both, or_first, same_text_is, same_text_refl, is_lot_is, is_lot_refl, is_lot_item}
+use Rattle.machine.proofs.histories.Accepted.{room_for_acts}
 use Rattle.machine.proofs.histories.Picks.{pick_disturbs_none}
-use Rattle.rules.proofs.rows.LotTold.{own_in_bin_told}
-use Rattle.rules.proofs.rows.StageTold.{on_stage_told, found_reserved, reserved_told}
-use Rattle.rules.proofs.rows.StageUnits.{stage_within_limit}
-use Rattle.rules.proofs.rows.StockChanged.{taken_out, taken_elsewhere}
-use Rattle.rules.proofs.rows.StagedChanged.{staged_here, staged_elsewhere}
-use Rattle.rules.proofs.rows.ReservedLowered.{own_lowered, others_kept, lowered_once}
+use Rattle.machine.proofs.histories.Quantities.{at_least_one}
+use Rattle.rules.proofs.rows.AfterRows.{loosened}
+use Rattle.rules.proofs.rows.SameKeys.{same_cell_refl, same_share_refl}
+use Rattle.rules.proofs.rows.StageTold.{found_reserved, reserved_told}
+use Rattle.rules.proofs.rows.ReservedLowered.{own_lowered as own_share_lowered, others_kept, lowered_once}
 use Rattle.rules.proofs.rows.TableSteps.{AreNamed, IsNamed, share_row}
-use Rattle.rules.proofs.decided.Decisions.{AreRight, IsChange}
-use Rattle.machine.proofs.histories.Quantities.{at_most_limit, at_least_one}
+use Rattle.rules.proofs.rows.PostedRows.{puts_none}
+use Rattle.rules.proofs.rows.Following.{NamesNeeded, Tells, are_bins, are_stages}
+use Rattle.rules.proofs.decided.Decisions.{AreRight, IsChange, plain_same}
+use Rattle.rules.proofs.decided.Posted.{IsPosted, AreFacts, no_line, posted_once, posted_changed}
 use Rattle.rules.proofs.decided.picks.PickJudged.{pick_judged}
-use Rattle.rules.proofs.decided.picks.StagingStep.{IsStaging, IsLeft}
-use Rattle.rules.proofs.decided.picks.StagingTells.{staging_changed}
 
 module _ (first : ℤ) (acts : List Act) (key : Key) (p : Picking) (s : Slice) (slice : IsSlice first (record { key = key; command = Pick p }) acts (tables_of first acts) s)
     (next : IsHistory first (record { key = key; command = Pick p } ∷ acts)) where
@@ -48,66 +49,48 @@ module _ (first : ℤ) (acts : List Act) (key : Key) (p : Picking) (s : Slice) (
   abbrev after : List Act
   after = act ∷ acts
 
-  staging : IsStaging first acts act p (InBin p.bin) (Stage p.order)
-  staging = record {
-    posts = refl;
-    not_from_shipment = λ o. refl;
-    not_to_shipment = λ o. refl;
-    from_no_shipment = λ n. refl;
-    to_no_shipment = λ n. refl;
-    no_card = λ x. refl;
-    items = λ g. refl;
-    least = λ g. refl;
-    bins = λ b. refl;
-    lots = λ l. refl;
-    recalls = λ l. refl;
-    named = λ o. refl;
-    cancelled = λ o. refl;
-    shipments = λ n. refl;
-    day = refl;
-    earliest = λ g. refl;
-    shipped = refl;
-    reply = refl;
-    touches = λ g. refl;
-    names_order = λ o. refl;
-    names_bin = λ b. refl;
-    names_lot = λ l. refl;
-  }
-
-  legal : Legal (postings first acts)
-  legal = legal_history first acts next.0
-
-  there : p.qty ≤ in_bin first acts p.bin p.lot
-  there = (pick_accepted first acts p next.1.passes).there
-
-  small : p.qty ≤ QTY_MAX
-  small = at_most_limit p.qty (and_both (is_name p.order && is_lot_id p.lot && is_name p.bin) (is_qty p.qty) next.1.sound.command).1
-
-  touched : same_text p.lot.gtin p.lot.gtin ≡ true
-  touched = same_text_refl p.lot.gtin
-
   own : same_text p.order p.order && is_lot p.lot p.lot ≡ true
   own = λ i. same_text_refl p.order i && is_lot_refl p.lot i
 
-  in_bin_named : is_lot p.lot p.lot && same_text p.bin p.bin ≡ true
-  in_bin_named = λ i. is_lot_refl p.lot i && same_text_refl p.bin i
+  -- The units, which are those of the rows that a pick asks for
 
-  in_bin_after : in_bin first after p.bin p.lot ≡ in_bin_seen s p.bin p.lot - p.qty
-  in_bin_after =
-      taken_out first acts after (next_number acts) p.lot p.bin p.qty legal (Stage p.order) refl (λ c. refl) there
-      ∙ ap (λ n. n - p.qty) (sym (own_in_bin_told first acts act s slice p.bin p.lot touched in_bin_named))
+  posted : IsPosted first acts act (pick_told p)
+  posted =
+      posted_once first acts act next p.lot (told.InBin p.bin) (told.Stage p.order) p.qty refl refl refl
+      (record { items = refl; bins = refl; recalls = refl; orders = refl; cancels = refl; shipments = refl; day = refl; asked = refl })
 
-  on_stage_after : staged_of_lot first after p.order p.lot ≡ capped (on_stage_seen s p.order p.lot + p.qty)
-  on_stage_after =
-      let e = staged_here first acts after (next_number acts) p.order p.lot p.qty legal (InBin p.bin) refl (λ c. refl) there in
-      omega (arith, e, on_stage_told first acts act s slice p.order p.lot touched own, stage_within_limit first acts next.0 p.order p.lot, small)
+  cell_asked : (k : LotBin) → same_cell k (p.lot, p.bin) ≡ true → same_text k.0.gtin p.lot.gtin && ((is_lot k.0 p.lot && same_text k.1 p.bin) || false) ≡ true
+  cell_asked k e = let two = and_both (is_lot k.0 p.lot) (same_text k.1 p.bin) e in (λ i. is_lot_item k.0 p.lot two.0 i && or_first (is_lot k.0 p.lot && same_text k.1 p.bin) false e i)
 
-  left : IsLeft first acts act p (in_bin_seen s p.bin p.lot - p.qty) (capped (on_stage_seen s p.order p.lot + p.qty))
-  left = record {
-    here = in_bin_after;
-    elsewhere = taken_elsewhere first acts after (next_number acts) p.lot p.bin p.qty legal (Stage p.order) refl (λ c. refl) there;
-    on_stage = on_stage_after;
-    on_others = staged_elsewhere first acts after (next_number acts) p.order p.lot p.qty legal (InBin p.bin) refl (λ c. refl) there;
+  stock_before : Tells bins are_bins (λ k. same_cell k (p.lot, p.bin)) (λ k. in_bin first acts k.1 k.0) s.rows.stock
+  unfolding tables_of
+  stock_before = loosened same_cell (λ (r : StockRow). (r.lot, r.bin)) _ (λ k. same_cell k (p.lot, p.bin)) _ (λ k. true) (λ k. stock_row first acts k.0 k.1) (λ k. stock_row first acts k.0 k.1) s.rows.stock cell_asked (λ k e. refl) (λ k. refl) slice.stock
+
+  share_asked : (k : OrderLot) → same_share k (p.order, p.lot) ≡ true → (same_text k.0 p.order && is_lot k.1 p.lot) && same_text k.1.gtin p.lot.gtin ≡ true
+  share_asked k e = let two = and_both (same_text k.0 p.order) (is_lot k.1 p.lot) e in (λ i. e i && is_lot_item k.1 p.lot two.1 i)
+
+  staged_before : Tells stages are_stages (λ k. same_share k (p.order, p.lot)) (λ k. staged_of_lot first acts k.0 k.1) s.rows.staged
+  unfolding tables_of
+  staged_before = loosened same_share (λ (r : StagedRow). (r.order, r.lot)) _ (λ k. same_share k (p.order, p.lot)) _ (λ k. true) (λ k. staged_row first acts k.0 k.1) (λ k. staged_row first acts k.0 k.1) s.rows.staged share_asked (λ k e. refl) (λ k. refl) slice.staged
+
+  bins_named : NamesNeeded bins (λ k. same_cell k (p.lot, p.bin)) (posting (next_number acts) p.lot (InBin p.bin) (Stage p.order) p.qty)
+  bins_named = elim (p.qty == 0) as (λ t. NamesNeeded bins (λ k. same_cell k (p.lot, p.bin)) (if t then [] else record { act = next_number acts; lot = p.lot; from = InBin p.bin; to = Stage p.order; qty = p.qty } ∷ [])) [
+    | true ↦ tt
+    | false ↦ ((λ k e. let n : (p.lot, p.bin) ≡ k = cc in subst (λ (x : LotBin). same_cell x (p.lot, p.bin) ≡ true) n (same_cell_refl (p.lot, p.bin))), (λ k e. cc), tt)
+  ]
+
+  stages_named : NamesNeeded stages (λ k. same_share k (p.order, p.lot)) (posting (next_number acts) p.lot (InBin p.bin) (Stage p.order) p.qty)
+  stages_named = elim (p.qty == 0) as (λ t. NamesNeeded stages (λ k. same_share k (p.order, p.lot)) (if t then [] else record { act = next_number acts; lot = p.lot; from = InBin p.bin; to = Stage p.order; qty = p.qty } ∷ [])) [
+    | true ↦ tt
+    | false ↦ ((λ k e. cc), (λ k e. let n : (p.order, p.lot) ≡ k = cc in subst (λ (x : OrderLot). same_share x (p.order, p.lot) ≡ true) n (same_share_refl (p.order, p.lot))), tt)
+  ]
+
+  facts : AreFacts first acts act (no_facts s)
+  facts = record {
+    lots = puts_none acts act refl refl;
+    cards = no_line first act acts (next_number acts) p.lot (InBin p.bin) (Stage p.order) p.qty refl;
+    cards_once = refl;
+    text = plain_same first acts act s slice (room_for_acts first acts (Pick p) next.1.passes) refl;
   }
 
   -- The reservation is lowered by what is picked, and no other changes
@@ -153,7 +136,7 @@ module _ (first : ℤ) (acts : List Act) (key : Key) (p : Picking) (s : Slice) (
       let lot : p.lot ≡ l = sym (is_lot_is l p.lot two.1) in
       subst (λ (x : List ℕ). IsNamed x l (reserved first acts x l) (reserved first after x l) put dropped) order
       (subst (λ (y : LotId). IsNamed p.order y (reserved first acts p.order y) (reserved first after p.order y) put dropped) lot
-      (subst (λ n. IsNamed p.order p.lot units_before n put dropped) (sym left_is) (own_lowered p.order p.lot units_before units_left s.rows.reserved found less)))
+      (subst (λ n. IsNamed p.order p.lot units_before n put dropped) (sym left_is) (own_share_lowered p.order p.lot units_before units_left s.rows.reserved found less)))
   named_at o l false e h =
       others_kept p.order p.lot units_before units_left s.rows.reserved found less o l e (reserved first acts o l) (reserved first after o l) (omega (arith, h))
 
@@ -162,8 +145,8 @@ module _ (first : ℤ) (acts : List Act) (key : Key) (p : Picking) (s : Slice) (
 
   pick_changed : IsChange first act acts (pick_changes s p)
   pick_changed =
-      staging_changed first acts act p (InBin p.bin) (Stage p.order) staging s slice next (in_bin_seen s p.bin p.lot - p.qty) (capped (on_stage_seen s p.order p.lot + p.qty)) left
-      put dropped named (lowered_once p.order p.lot units_left)
+      posted_changed first acts act s slice next (pick_told p) posted (λ k. same_cell k (p.lot, p.bin)) bins_named stock_before (staged_after s (pick_told p)) refl (λ k. same_share k (p.order, p.lot)) stages_named staged_before
+      (own_lowered s p) named (no_facts s) facts (lowered_once p.order p.lot units_left)
 
 pub picks_right : (key : Key) (s : Slice) (result : Result Change RuleFault) (p : Picking) → AreRight key s result (Pick p) (pick_seen s p) (pick_changes s p)
 picks_right key s result p first acts history slice = record { judged = pick_judged first acts key p s slice history; changed = λ ok next. pick_changed first acts key p s slice next }
