@@ -1,8 +1,9 @@
 //! A sink that writes a line for each act.
 
-ghost use Rattle.std.specs.Prelude.{◌≡◌, IfOk, OnOk, OnErr};
+ghost use Rattle.std.specs.Prelude.{◌≡◌, ◌⊎◌, ◌+◌, Err, IfOk, OnOk, OnErr};
 ghost use Rattle.machine.specs.Standing.{day_after_command};
 ghost use Rattle.histories.specs.Lines.{IsDayAfter, AddsLine, CutsLine};
+ghost use Rattle.histories.specs.declared.fault.HistoryFault.TheVariants.{Foreign};
 
 use crate::HistoryFault;
 use crate::line::put_line;
@@ -48,6 +49,7 @@ impl<W: Write> HistoryLines<W> {
     fn put(&mut self, row: &RepeatRow) -> Result<(), HistoryFault>
         ensures added { OnOk result (AddsLine W.contents self.old row.now self.new) }
         ensures cut { OnErr result (CutsLine W.contents self.old row.now self.new) }
+        ensures turn { (row.now.act ≡ self.old.done + 1) ⊎ (result ≡ Err Foreign) }
     {
         if self.done.checked_add(1) != Some(row.act) {
             return Err(HistoryFault::Foreign);
