@@ -1,15 +1,23 @@
 -- Rows that are known by what they were sought by.
-use Rattle.std.specs.Prelude.{◌≡◌, ◌⊎◌, Bool, true, false, not, if◌then◌else◌, List, [], ◌∷◌, ◌++◌, filter, Option, Some, None, IfSome, Vec}
+use Rattle.std.specs.Prelude.{◌≡◌, ◌⊎◌, ℕ, ◌+◌, length, Bool, true, false, not, if◌then◌else◌, List, [], ◌∷◌, ◌++◌, filter, Option, Some, None, IfSome, Vec}
 use Rattle.std.specs.declared.alloc.Global.{Global}
-use Rattle.std.specs.List.{list_any}
+use Rattle.std.specs.List.{list_any, sum_by}
 use Rattle.std.specs.Option.{option_map}
 use Rattle.std.specs.Ordering.{is_eq}
 use Rattle.std.specs.declared.cmp.Ordering.{Ordering}
-use Rattle.std.specs.BTreeMap.{BTreeMap, get}
+use Rattle.std.specs.BTreeMap.{BTreeMap, get, values}
 
 -- lists of rows by the keys of what they were sought by
 abbrev pub RowMap : Type 0 → Type 0 → Type 0
 RowMap K R = BTreeMap K (Vec R Global)
+
+-- what a list weighs: 1, and each of its rows 1 more
+abbrev pub list_weight : {R : Type 0} → Vec R Global → ℕ
+list_weight rows = length rows.items + 1
+
+-- what lists weigh together
+abbrev pub map_weight : {K R : Type 0} → RowMap K R → ℕ
+map_weight m = sum_by list_weight (values m)
 
 -- the list without the row under the key of this one, and with the row in its place
 abbrev pub without_row : {R : Type 0} → (R → R → Bool) → R → List R → List R

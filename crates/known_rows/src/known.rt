@@ -1,11 +1,12 @@
 //! Rows that are known by what they were sought by.
 
-ghost use Rattle.std.specs.Prelude.{◌≡◌};
+ghost use Rattle.std.specs.Prelude.{◌≡◌, ◌+◌, ◌≤◌};
 ghost use Rattle.std.specs.Option.{option_copied};
-ghost use Rattle.known_rows.specs.KnownRows.{rows_at, KnowsNone, IsPart, LearnsAt, ForgetsAt, ForgetsBy, ChangesAt, ChangesBy, with_put, without_row};
+ghost use Rattle.known_rows.specs.declared.known.TheConstants.{WEIGHT_MAX};
+ghost use Rattle.known_rows.specs.KnownRows.{list_weight, map_weight, rows_at, KnowsNone, IsPart, LearnsAt, ForgetsAt, ForgetsBy, ChangesAt, ChangesBy, with_put, without_row};
 
 use crate::keyed::{ExactKey, KeyedRow};
-use crate::lists::{drop_from, put_in};
+use crate::lists::{can_weigh, drop_from, put_in, weight_if, weight_of};
 use row_rules::having::Has;
 use slice_lists::key_list::KeyOf;
 use std::alloc::Global;
@@ -22,15 +23,11 @@ pub const FEW: usize = 256;
 #[derive(Drop)]
 pub struct KnownRows<B: Copy, K: KeyOf<B>, R: Has<B>> {
     pub rows: BTreeMap<K, Vec<R>>,
-    /// No less than what is known weighs.
+    /// What is known weighs so much.
     pub weight: u64,
     pub alloc: Global,
     pub of: PhantomData<B>,
-}
-
-// What a list weighs.
-fn weight_of<R>(rows: &[R]) -> u64 {
-    (rows.len() as u64).saturating_add(1)
+    ghost weighs: { weight ≡ map_weight rows },
 }
 
 impl<B: Copy, K: KeyOf<B>, R: Has<B>> KnownRows<B, K, R> {
@@ -61,7 +58,7 @@ impl<B: Copy, K: KeyOf<B>, R: Has<B>> KnownRows<B, K, R> {
         ensures { ForgetsAt K.cmp (K.key by.now) self.old.rows self.new.rows }
     {
         if let Some(rows) = self.rows.remove(&K::of(by)) {
-            self.weight = self.weight.saturating_sub(weight_of(rows.as_slice()));
+            self.weight -= weight_of(&rows);
         }
     }
 
@@ -76,7 +73,8 @@ impl<B: Copy, K: KeyOf<B>, R: Has<B>> KnownRows<B, K, R> {
 
     // Forgets all, where too much is known.
     fn make_room(&mut self)
-        ensures { IsPart K.cmp self.old.rows self.new.rows }
+        ensures part { IsPart K.cmp self.old.rows self.new.rows }
+        ensures bounded { self.new.weight ≤ WEIGHT_MAX }
     {
         if self.weight > WEIGHT_MAX {
             self.rows = BTreeMap::new(self.alloc);
@@ -84,14 +82,16 @@ impl<B: Copy, K: KeyOf<B>, R: Has<B>> KnownRows<B, K, R> {
         }
     }
 
-    /// Knows the rows that were found by this, unless there is no memory for them. Where too much is known, all else is forgotten.
+    /// Knows the rows that were found by this, unless there is no memory for them. Where too much is known, all else is forgotten:
+    /// what is known after is within the bound but for this list.
     pub fn keep(&mut self, by: &B, rows: Vec<R>)
-        ensures { LearnsAt K.cmp (K.key by.now) rows.items self.old.rows self.new.rows }
+        ensures learns { LearnsAt K.cmp (K.key by.now) rows.items self.old.rows self.new.rows }
+        ensures bounded { self.new.weight ≤ WEIGHT_MAX + list_weight rows }
     {
         self.make_room();
-        self.weight = self.weight.saturating_add(weight_of(rows.as_slice()));
-        if let Ok(Some(before)) = self.rows.insert(K::of(by), rows) {
-            self.weight = self.weight.saturating_sub(weight_of(before.as_slice()));
+        let more = weight_of(&rows);
+        if let Ok(before) = self.rows.insert(K::of(by), rows) {
+            self.weight = self.weight + more - weight_if(&before);
         }
     }
 }
@@ -106,12 +106,15 @@ impl<B: Copy, K: KeyOf<B> + ExactKey, R: Has<B> + KeyedRow> KnownRows<B, K, R> {
         let Some(rows) = self.rows.get_mut(&key) else {
             return;
         };
-        let before = weight_of(rows.as_slice());
+        let before = weight_of(rows);
         let done = put_in::<R>(rows, row);
-        let after = weight_of(rows.as_slice());
-        self.weight = self.weight.saturating_add(after).saturating_sub(before);
-        if done.is_err() {
+        let after = weight_of(rows);
+        let others = self.weight - before;
+        if can_weigh(&done, others, after) {
+            self.weight = others + after;
+        } else {
             self.rows.remove(&key);
+            self.weight = others;
         }
     }
 
@@ -123,10 +126,10 @@ impl<B: Copy, K: KeyOf<B> + ExactKey, R: Has<B> + KeyedRow> KnownRows<B, K, R> {
         let Some(rows) = self.rows.get_mut(&key) else {
             return;
         };
-        let before = weight_of(rows.as_slice());
+        let before = weight_of(rows);
         drop_from::<R>(rows, row);
-        let after = weight_of(rows.as_slice());
-        self.weight = self.weight.saturating_add(after).saturating_sub(before);
+        let after = weight_of(rows);
+        self.weight = self.weight - before + after;
     }
 
     /// Each of these rows takes its place, one after another. Where there are many, the lists that they are of are forgotten.
