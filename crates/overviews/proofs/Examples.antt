@@ -187,16 +187,16 @@ those_behind_a_lot_in_a_bin = refl
 
 -- rye bread has the smaller GTIN, so its lot stands first, though it came last and expires last
 abbrev with_rye : List Act
-with_rye = keyed (codes "K-Y") (receive (lot_of RYE (codes "R1")) june_30 A1 3) ∷ with_early_lot
+with_rye = keyed (codes "K-Y") (receive (lot_of RYE (codes "RY")) june_30 A1 3) ∷ with_early_lot
 
 abbrev rye_in_bin : BinLot
-rye_in_bin = record { item = record { gtin = RYE; name = codes "Rye bread" }; lot = codes "R1"; expiry = june_30; qty = 3; status = Free }
+rye_in_bin = record { item = record { gtin = RYE; name = codes "Rye bread" }; lot = codes "RY"; expiry = june_30; qty = 3; status = Free }
 
 lots_in_a_bin_stand_by_item : bin_shown may_4 with_rye A1 None
     ≡ Ok (record { act = 11; bin = A1; kind = Store; lots = rye_in_bin ∷ early_in_bin ∷ next_in_bin ∷ last_in_bin ∷ []; more = false })
 lots_in_a_bin_stand_by_item = refl
 
-behind_an_item_are_those_of_the_next : bin_shown may_4 with_rye A1 (Some (lot_of RYE (codes "R1")))
+behind_an_item_are_those_of_the_next : bin_shown may_4 with_rye A1 (Some (lot_of RYE (codes "RY")))
     ≡ Ok (record { act = 11; bin = A1; kind = Store; lots = early_in_bin ∷ next_in_bin ∷ last_in_bin ∷ []; more = false })
 behind_an_item_are_those_of_the_next = refl
 
