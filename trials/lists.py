@@ -1,6 +1,6 @@
-"""Random days' work, and after each tenth act each list (the books, the open orders, the items, the lots that expire), page
-by page and behind entries of all kinds, against a plain reckoning over the lines of `lotd history`. ACTS says how many acts
-(3,000), SEED from where the work is drawn. Needs the Rattle kit, and takes some minutes.
+"""Random days' work, and after each tenth act each list (the books, the open orders, the items, the lots that expire, the
+lots in a bin), page by page and behind entries of all kinds, against a plain reckoning over the lines of `lotd history`. ACTS
+says how many acts (3,000), SEED from where the work is drawn. Needs the Rattle kit, and takes some minutes.
 Exit status 0 only if every answer was, byte for byte, what is reckoned here.
 """
 import collections
@@ -182,6 +182,15 @@ class Books:
                     "reserved": sum(qty for key, qty in reserved.items() if key[1] == lot), "staged": staged, "status": self.status(lot)}))
         return found
 
+    def by_item(self, lot):
+        """The place of a lot among all, as they stand in a bin."""
+        return lot[0], self.lots[lot]
+
+    def in_bin(self, name):
+        return [(self.by_item(lot), {"expiry": acts.day_text(self.lots[lot][0]), "gtin": lot[0], "lot": lot[1], "name": self.items[lot[0]],
+                                     "qty": self.stock[(*lot, name)], "status": self.status(lot)})
+                for lot in sorted(self.lots, key=self.by_item) if self.stock[(*lot, name)]]
+
 
 def books_now(db):
     """The books, by what `lotd history` prints of a copy of the file."""
@@ -203,21 +212,21 @@ def is_told(clerk, path, expected):
         sys.exit("lists: GET %s: expected %r, got %r" % (path, text, answer))
 
 
-def are_told(clerk, path, word, acts_done, entries, most, part):
-    """A list, page by page from its first; `part` is what identifies an entry in the path."""
+def are_told(clerk, path, word, acts_done, entries, most, part, **beside):
+    """A list, page by page from its first; `part` is what identifies an entry in the path, and `beside` stands in each answer."""
     rest = [entry for _, entry in entries]
     at = path
     while True:
-        is_told(clerk, at, {"act": acts_done, word: rest[:most], "more": len(rest) > most})
+        is_told(clerk, at, {"act": acts_done, word: rest[:most], "more": len(rest) > most, **beside})
         if len(rest) <= most:
             return
         at, rest = path + "/" + part(rest[most - 1]), rest[most:]
 
 
-def behind(clerk, path, word, acts_done, entries, most, place):
+def behind(clerk, path, word, acts_done, entries, most, place, **beside):
     """The first page behind a place, whether or not an entry stands there."""
     rest = [entry for at, entry in entries if place < at]
-    is_told(clerk, path, {"act": acts_done, word: rest[:most], "more": len(rest) > most})
+    is_told(clerk, path, {"act": acts_done, word: rest[:most], "more": len(rest) > most, **beside})
 
 
 def quoted(text):
@@ -247,6 +256,10 @@ def all_lists(clerk, db):
     are_told(clerk, path, "lots", books.acts, expiring, PAGE, of_lot)
     lot = chance.choice([lot for lot in books.lots if lot[1] not in (".", "..")])
     behind(clerk, "%s/%s/%s" % (path, lot[0], quoted(lot[1])), "lots", books.acts, expiring, PAGE, books.lots[lot])
+    name = chance.choice(list(books.kinds))
+    path, found, beside = "/bins/" + quoted(name), books.in_bin(name), {"bin": name, "kind": books.kinds[name]}
+    are_told(clerk, path, "lots", books.acts, found, PAGE, of_lot, **beside)
+    behind(clerk, "%s/%s/%s" % (path, lot[0], quoted(lot[1])), "lots", books.acts, found, PAGE, books.by_item(lot), **beside)
 
 
 db = os.path.join(room, "books.db")

@@ -9,11 +9,6 @@ from page_house import DAY, TEA, asked, done, entered, label, lots_of, passed
 WATER = "09506000117010"
 
 
-def tells_bins():
-    """Whether this lotd tells what lies in a bin."""
-    return asked("/bins/RETURNS")[0] == 200
-
-
 def named(what):
     return [it.text.split("\n")[0] for it in every(what)]
 
@@ -40,7 +35,7 @@ def at_home():
     go("")
     told = json.loads(asked("/openorders")[1])
     until("the day", lambda: text("#day") == json.loads(asked("/books")[1])["day"])
-    until("the lists", lambda: "open orders" in text("main") and "expire: " in text("main") and ("In RETURNS: " in text("main")) == tells_bins())
+    until("the lists", lambda: "open orders" in text("main") and "expire: " in text("main") and "In RETURNS: " in text("main"))
     is_told("the first ten, in the order in which they are served", [it["customer"] for it in told["orders"][:10]], named(".rowed")[:10])
     is_told("urgent ones in front", True, told["orders"][0]["class"] == "URGENT" and "URGENT" in every(".rowed")[0].text)
     is_fit("list-home")
@@ -83,10 +78,6 @@ def shows_a_bin():
     go("")
     scan("]A0W-01")
     until("the bin", lambda: text("#title") == "Bin W-01")
-    if not tells_bins():
-        is_told("what is not known of it", [], every(".lines > li"))
-        passed("a bin by a scan; this lotd does not tell what lies in it")
-        return
     until("its kind", lambda: "STORE: to sell" in text("main"))
     is_told("its lots by expiry", ["V1", "V2", "V4"], [it.text for it in every(".lines h3 code")])
     is_told("how many of each", ["35", "30", "9"], [it.text for it in every(".lines h3 b")])
@@ -146,8 +137,7 @@ def finds_by_name():
     every(".hits:not([hidden]) button")[0].click()
     until("the item", lambda: text("#title") == "An item" and "Mineral water" in text("main"))
     lots = [it for it in lots_of(WATER).values() if it["status"] == "FREE"]
-    stores = ("W-01",) if tells_bins() else ("W-01", "Q-01")
-    free = sum(place["qty"] for it in lots for place in it["bins"] if place["bin"] in stores) - sum(it["reserved"] for it in lots)
+    free = sum(place["qty"] for it in lots for place in it["bins"] if place["bin"] == "W-01") - sum(it["reserved"] for it in lots)
     until("how much may still be promised", lambda: text(".promise b") == str(free) and free > 0)
     go("")
     by_hand("i")

@@ -27,13 +27,8 @@ export const openOrders = parts => read(last => get("openorders", ...(last ? [la
 export const inBin = (bin, parts) => read(last => get("bins", bin, ...lotOf(last)), "lots", parts);
 export const expiring = (day, parts) => read(last => get("expiring", day, ...lotOf(last)), "lots", parts);
 
-let bins = null;
-/** Whether this lotd tells what lies in a bin, and of which kind a bin is. */
-export const hasBins = () => bins ??= get("bins", "RETURNS").then(() => true, fault => { if (fault.code === "W06") return false; bins = null; throw fault; });
-
-/** Whether units in this bin may be promised, as far as this lotd tells. A bin's kind never changes. */
+/** Whether units in this bin may be promised. A bin's kind never changes. */
 export async function isStore(bin) {
-  if (!await hasBins()) return bin !== "RETURNS";
   const name = "kind/" + bin;
   if (!setting(name)) set(name, (await get("bins", bin)).kind);
   return setting(name) === "STORE";

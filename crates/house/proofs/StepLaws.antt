@@ -11,8 +11,9 @@ use Rattle.commands.specs.declared.key.Key.{Key}
 use Rattle.commands.specs.declared.command.Command.{Command}
 use Rattle.commands.specs.declared.views.OrderView.{OrderView}
 use Rattle.commands.specs.declared.views.StockView.{StockView}
-use Rattle.overviews.specs.Shown.{books_shown, open_orders_shown, item_names_shown, expiring_shown}
+use Rattle.overviews.specs.Shown.{books_shown, open_orders_shown, item_names_shown, expiring_shown, bin_shown}
 use Rattle.overviews.specs.declared.lists.BooksView.{BooksView}
+use Rattle.overviews.specs.declared.lists.BinView.{BinView}
 use Rattle.overviews.specs.declared.lists.ExpiringView.{ExpiringView}
 use Rattle.overviews.specs.declared.lists.ItemNamesView.{ItemNamesView}
 use Rattle.overviews.specs.declared.lists.OpenOrdersView.{OpenOrdersView}
@@ -29,12 +30,12 @@ use Rattle.requests.specs.declared.fault.WireFault.TheVariants.{Head, Length, Js
 use Rattle.requests.specs.declared.ask.Ask.{Ask}
 use Rattle.requests.specs.declared.ask.Ask.TheVariants.{Do, Scan, GoodsIn, Show}
 use Rattle.requests.specs.declared.ask.Query.{Query}
-use Rattle.requests.specs.declared.ask.Query.TheVariants.{Books, OpenOrders, ItemNames, Expiring, Order, Stock, PickList, Shortages, Card, Notice}
+use Rattle.requests.specs.declared.ask.Query.TheVariants.{Books, OpenOrders, ItemNames, Expiring, Bin, Order, Stock, PickList, Shortages, Card, Notice}
 use Rattle.requests.specs.declared.request.Read.{Read}
 use Rattle.requests.specs.declared.request.Read.TheVariants.{Need, Bad, Request}
 use Rattle.wire.specs.Answers.{head_text}
 use Rattle.wire.specs.Shorts.{code_text, code_row_text, tally_text}
-use Rattle.wire.specs.declared.answer.Answer.TheVariants.{Books as BooksAnswer, OpenOrders as OpenOrdersAnswer, ItemNames as ItemNamesAnswer, Expiring as ExpiringAnswer, Order as OrderAnswer, Stock as StockAnswer, Text}
+use Rattle.wire.specs.declared.answer.Answer.TheVariants.{Books as BooksAnswer, OpenOrders as OpenOrdersAnswer, ItemNames as ItemNamesAnswer, Expiring as ExpiringAnswer, Bin as BinAnswer, Order as OrderAnswer, Stock as StockAnswer, Text}
 use Rattle.texts.specs.PickList.{pick_list_text}
 use Rattle.texts.specs.Shortages.{shortages_text}
 use Rattle.texts.specs.Card.{card_text}
@@ -168,6 +169,11 @@ unfolding head_text digits
 expiring_not_foreign (Ok view) = other (view_answer ExpiringAnswer (Ok view)) 50 refl (lit< tt)
 expiring_not_foreign (Err why) = other (view_answer ExpiringAnswer (Err why)) 52 refl (lit< tt)
 
+bin_not_foreign : (r : Result BinView Refusal) → view_answer BinAnswer r ≢ foreign_books
+unfolding head_text digits
+bin_not_foreign (Ok view) = other (view_answer BinAnswer (Ok view)) 50 refl (lit< tt)
+bin_not_foreign (Err why) = other (view_answer BinAnswer (Err why)) 52 refl (lit< tt)
+
 text_not_foreign : {V : Type 0} (text : V → List ℕ) (r : Result V Refusal) → view_answer (λ v. Text (text v)) r ≢ foreign_books
 unfolding head_text digits
 text_not_foreign text (Ok view) = other (view_answer (λ v. Text (text v)) (Ok view)) 50 refl (lit< tt)
@@ -178,6 +184,7 @@ query_not_foreign first acts Books = books_not_foreign (books_shown first acts)
 query_not_foreign first acts (OpenOrders behind) = open_orders_not_foreign (open_orders_shown first acts behind)
 query_not_foreign first acts (ItemNames behind) = item_names_not_foreign (item_names_shown acts behind)
 query_not_foreign first acts (Expiring day behind) = expiring_not_foreign (expiring_shown first acts day behind)
+query_not_foreign first acts (Bin bin behind) = bin_not_foreign (bin_shown first acts bin behind)
 query_not_foreign first acts (Order order) = order_not_foreign (order_shown first acts order)
 query_not_foreign first acts (Stock gtin) = stock_not_foreign (stock_shown first acts gtin)
 query_not_foreign first acts (PickList order) = text_not_foreign pick_list_text (order_shown first acts order)

@@ -21,7 +21,7 @@ use Rattle.store.specs.Connected.{Connected}
 use Rattle.store.specs.Books.{AreBooks, LeavesOnly, HoldsBooks}
 use Rattle.wire.specs.Answers.{head_text, answer_bytes}
 use Rattle.wire.specs.declared.answer.Answer.{Answer}
-use Rattle.wire.specs.declared.answer.Answer.TheVariants.{Books as BooksAnswer, OpenOrders as OpenOrdersAnswer, ItemNames as ItemNamesAnswer, Expiring as ExpiringAnswer, Order as OrderAnswer, Stock as StockAnswer, Text}
+use Rattle.wire.specs.declared.answer.Answer.TheVariants.{Books as BooksAnswer, OpenOrders as OpenOrdersAnswer, ItemNames as ItemNamesAnswer, Expiring as ExpiringAnswer, Bin as BinAnswer, Order as OrderAnswer, Stock as StockAnswer, Text}
 use Rattle.house.specs.Answers.{fault_answer, ask_answer, acts_asked, status_of}
 use Rattle.house.specs.Asking.{IsDone, IsUndone}
 use Rattle.house.specs.House.{Step, StepsTo, IsOneFurther, LeavesBooks, IsLongIfOk, IsInPlace, IsAskedInPlace}
@@ -136,6 +136,7 @@ ok_status bytes (BooksAnswer view) is = ap status_of is
 ok_status bytes (OpenOrdersAnswer view) is = ap status_of is
 ok_status bytes (ItemNamesAnswer view) is = ap status_of is
 ok_status bytes (ExpiringAnswer view) is = ap status_of is
+ok_status bytes (BinAnswer view) is = ap status_of is
 ok_status bytes (OrderAnswer view) is = ap status_of is
 ok_status bytes (StockAnswer view) is = ap status_of is
 ok_status bytes (Text text) is = ap status_of is

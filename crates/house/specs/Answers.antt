@@ -14,7 +14,7 @@ use Rattle.machine.specs.Acts.{Act}
 use Rattle.machine.specs.Standing.{today}
 use Rattle.machine.specs.Once.{Outcome, Accepted, Repeated, Refused, outcome, acts_after, is_key_of, FileOutcome, Taken, RefusedRow, file_outcome, acts_after_file}
 use Rattle.machine.specs.Queries.{order_shown, short_shown, stock_shown, card_shown, notice_shown}
-use Rattle.overviews.specs.Shown.{books_shown, open_orders_shown, item_names_shown, expiring_shown}
+use Rattle.overviews.specs.Shown.{books_shown, open_orders_shown, item_names_shown, expiring_shown, bin_shown}
 use Rattle.goodsin.specs.Faults.{file_fault_code}
 use Rattle.goodsin.specs.Files.{file_read}
 use Rattle.goodsin.specs.declared.fault.FileFault.{FileFault}
@@ -23,14 +23,14 @@ use Rattle.store.specs.Filing.{rows_of}
 use Rattle.requests.specs.declared.ask.Ask.{Ask}
 use Rattle.requests.specs.declared.ask.Ask.TheVariants.{Do, Scan, GoodsIn, Show}
 use Rattle.requests.specs.declared.ask.Query.{Query}
-use Rattle.requests.specs.declared.ask.Query.TheVariants.{Books, OpenOrders, ItemNames, Expiring, Order, Stock, PickList, Shortages, Card, Notice}
+use Rattle.requests.specs.declared.ask.Query.TheVariants.{Books, OpenOrders, ItemNames, Expiring, Bin, Order, Stock, PickList, Shortages, Card, Notice}
 use Rattle.requests.specs.declared.request.Read.{Read}
 use Rattle.requests.specs.declared.request.Read.TheVariants.{Need, Bad, Request}
 use Rattle.wire.specs.Answers.{answer_bytes}
 use Rattle.wire.specs.Shorts.{code_text}
 pub use Rattle.wire.specs.ShortAnswers.{short_answer, fault_answer, not_served, no_memory, foreign_books, label_answer, tally_answer, row_conflict, cause_answer, cause_row_answer}
 use Rattle.wire.specs.declared.answer.Answer.{Answer}
-use Rattle.wire.specs.declared.answer.Answer.TheVariants.{Books as BooksAnswer, OpenOrders as OpenOrdersAnswer, ItemNames as ItemNamesAnswer, Expiring as ExpiringAnswer, Order as OrderAnswer, Stock as StockAnswer, Text}
+use Rattle.wire.specs.declared.answer.Answer.TheVariants.{Books as BooksAnswer, OpenOrders as OpenOrdersAnswer, ItemNames as ItemNamesAnswer, Expiring as ExpiringAnswer, Bin as BinAnswer, Order as OrderAnswer, Stock as StockAnswer, Text}
 use Rattle.texts.specs.PickList.{pick_list_text}
 use Rattle.texts.specs.Shortages.{shortages_text}
 use Rattle.texts.specs.Card.{card_text}
@@ -126,6 +126,9 @@ item_names_answer acts behind = view_answer ItemNamesAnswer (item_names_shown ac
 abbrev pub expiring_answer : ℤ → List Act → ℤ → Option LotId → List ℕ
 expiring_answer first acts day behind = view_answer ExpiringAnswer (expiring_shown first acts day behind)
 
+abbrev pub bin_answer : ℤ → List Act → List ℕ → Option LotId → List ℕ
+bin_answer first acts bin behind = view_answer BinAnswer (bin_shown first acts bin behind)
+
 abbrev pub order_answer : ℤ → List Act → List ℕ → List ℕ
 order_answer first acts order = view_answer OrderAnswer (order_shown first acts order)
 
@@ -149,6 +152,7 @@ query_answer first acts Books = books_answer first acts
 query_answer first acts (OpenOrders behind) = open_orders_answer first acts behind
 query_answer first acts (ItemNames behind) = item_names_answer acts behind
 query_answer first acts (Expiring day behind) = expiring_answer first acts day behind
+query_answer first acts (Bin bin behind) = bin_answer first acts bin behind
 query_answer first acts (Order order) = order_answer first acts order
 query_answer first acts (Stock gtin) = stock_answer first acts gtin
 query_answer first acts (PickList order) = pick_list_answer first acts order

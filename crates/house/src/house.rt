@@ -17,7 +17,7 @@ use crate::asking::{act, scan};
 use crate::filing::take_in;
 use crate::keeping::{KeepFault, Keeper};
 use crate::showing::{
-    show_books, show_card, show_expiring, show_item_names, show_notice, show_open_orders,
+    show_bin, show_books, show_card, show_expiring, show_item_names, show_notice, show_open_orders,
     show_order, show_pick_list, show_shortages, show_stock,
 };
 use requests::{Ask, Query, Read, RouteTable, WireFault, read_request};
@@ -160,6 +160,7 @@ fn answer_ask<S: Alter>(alloc: Global, books: &mut Books<S>, ask: &Ask) -> Answe
         Ask::Show(Query::OpenOrders(behind)) => show_open_orders(alloc, books, *behind),
         Ask::Show(Query::ItemNames(behind)) => show_item_names(alloc, books, *behind),
         Ask::Show(Query::Expiring(day, behind)) => show_expiring(alloc, books, *day, *behind),
+        Ask::Show(Query::Bin(bin, behind)) => show_bin(alloc, books, *bin, *behind),
         Ask::Show(Query::Order(order)) => show_order(alloc, books, order),
         Ask::Show(Query::Stock(gtin)) => show_stock(alloc, books, gtin),
         Ask::Show(Query::PickList(order)) => show_pick_list(alloc, books, order),

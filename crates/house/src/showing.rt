@@ -7,7 +7,7 @@ ghost use Rattle.wire.specs.Answers.{answer_bytes};
 ghost use Rattle.store.specs.Books.{IsClean, AreAsBefore};
 ghost use Rattle.texts.specs.PickList.{pick_list_text};
 ghost use Rattle.texts.specs.Shortages.{shortages_text};
-ghost use Rattle.house.specs.Answers.{books_answer, open_orders_answer, item_names_answer, expiring_answer, order_answer, stock_answer, pick_list_answer, shortages_answer, card_answer, notice_answer, no_memory};
+ghost use Rattle.house.specs.Answers.{books_answer, open_orders_answer, item_names_answer, expiring_answer, bin_answer, order_answer, stock_answer, pick_list_answer, shortages_answer, card_answer, notice_answer, no_memory};
 ghost use Rattle.house.specs.Asking.{Does, IsTextOf, asked_answer};
 ghost use Rattle.house.specs.House.{bytes_of, IsLongIfOk};
 ghost use Rattle.house.specs.LotTexts.{text_answer};
@@ -84,6 +84,23 @@ pub(crate) fn show_expiring<S: Alter>(
     ensures in_place { IsLongIfOk result }
 {
     let shown = books.expiring(day, behind).map(Answer::Expiring);
+    answer_shown(alloc, shown)
+}
+
+/// Shows the lots in a bin, from their first or behind a lot.
+pub(crate) fn show_bin<S: Alter>(
+    alloc: Global,
+    books: &mut Books<S>,
+    bin: Name,
+    behind: Option<LotId>,
+) -> Answered
+    ensures clean { IsClean S.Store books.new → IsClean S.Store books.old }
+    ensures shown { IsClean S.Store books.new → (first : ℤ) (acts : List Act) → IsHistory first acts
+        → Does S.Store first acts books.old (bin_answer first acts bin behind) acts (bytes_of result) books.new }
+    ensures as_before { IsClean S.Store books.new → AreAsBefore S.Store books.old books.new }
+    ensures in_place { IsLongIfOk result }
+{
+    let shown = books.bin(bin, behind).map(Answer::Bin);
     answer_shown(alloc, shown)
 }
 

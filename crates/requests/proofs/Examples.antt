@@ -16,9 +16,9 @@ use Rattle.requests.specs.declared.fault.WireFault.TheVariants.{Length, Path, Fi
 use Rattle.requests.specs.declared.method.Method.TheVariants.{Get, Post}
 use Rattle.requests.specs.declared.routes.Route.TheVariants.{Post as PostTo, Get as GetOf}
 use Rattle.requests.specs.declared.routes.Posted.TheVariants.{Items, Bins, Receipts, Counts, Orders, Recalls, Days, Leasts, Urgents, GoodsIn}
-use Rattle.requests.specs.declared.routes.Shown.TheVariants.{Order as AnOrder, Stock as TheStock, PickList as APickList, Shortages as TheShortages, Card, Notice as ANotice, Books, OpenOrders, OpenOrdersBehind, ItemNames, ItemNamesBehind, Expiring, ExpiringBehind}
+use Rattle.requests.specs.declared.routes.Shown.TheVariants.{Order as AnOrder, Stock as TheStock, PickList as APickList, Shortages as TheShortages, Card, Notice as ANotice, Books, OpenOrders, OpenOrdersBehind, ItemNames, ItemNamesBehind, Expiring, ExpiringBehind, Bin, BinBehind}
 use Rattle.requests.specs.declared.ask.Ask.TheVariants.{Do, GoodsIn as FileOf}
-use Rattle.requests.specs.declared.ask.Query.TheVariants.{Card as CardOf, OpenOrders as OpenOrdersFrom}
+use Rattle.requests.specs.declared.ask.Query.TheVariants.{Card as CardOf, OpenOrders as OpenOrdersFrom, Bin as BinFrom}
 
 -- routes
 
@@ -167,6 +167,31 @@ pub half_a_lot : route_of (codes "/expiring/d/g") ≡ None
 unfolding matchit_on_literals table
 half_a_lot = refl
 
+pub lots_in_a_bin : route_of (codes "/bins/A-01") ≡ Some (GetOf Bin)
+unfolding matchit_on_literals table
+lots_in_a_bin = refl
+
+-- the values are judged later
+pub lots_in_a_bin_behind_one : route_of (codes "/bins/b/g/l") ≡ Some (GetOf BinBehind)
+unfolding matchit_on_literals table
+lots_in_a_bin_behind_one = refl
+
+pub half_a_lot_in_a_bin : route_of (codes "/bins/b/g") ≡ None
+unfolding matchit_on_literals table
+half_a_lot_in_a_bin = refl
+
+pub a_bin_of_no_name : route_of (codes "/bins/") ≡ None
+unfolding matchit_on_literals table
+a_bin_of_no_name = refl
+
+pub bins_are_not_shown : read_ask (codes "GET") (codes "/bins") [] ≡ Err (OtherMethod Post)
+unfolding matchit_on_literals table
+bins_are_not_shown = refl
+
+pub lots_in_a_bin_are_not_posted : read_ask (codes "POST") (codes "/bins/A-01") [] ≡ Err (OtherMethod Get)
+unfolding matchit_on_literals table
+lots_in_a_bin_are_not_posted = refl
+
 pub open_orders_are_not_posted : read_ask (codes "POST") (codes "/openorders") [] ≡ Err (OtherMethod Get)
 unfolding matchit_on_literals table
 open_orders_are_not_posted = refl
@@ -184,6 +209,16 @@ a_lot_behind_a_gtin = refl
 pub open_orders_behind_a_name : query_of OpenOrdersBehind (codes "/openorders/S-1") ≡ Some (OpenOrdersFrom (Some (codes "S-1")))
 unfolding percent_decode
 open_orders_behind_a_name = refl
+
+pub lots_of_a_bin_behind_a_lot : query_of BinBehind (codes "/bins/A%2D01/09506000134352/A%2FB")
+    ≡ Some (BinFrom (codes "A-01") (Some (record { gtin = codes "09506000134352"; lot = codes "A/B" })))
+unfolding percent_decode
+lots_of_a_bin_behind_a_lot = refl
+
+-- a check digit that is wrong
+pub no_gtin_in_a_bin : query_of BinBehind (codes "/bins/A-01/09506000134353/L2") ≡ None
+unfolding percent_decode
+no_gtin_in_a_bin = refl
 
 pub an_escaped_digit : second_segment (codes "/stock/0950600013435%32") ≡ codes "09506000134352"
 unfolding percent_decode

@@ -27,13 +27,13 @@ use Rattle.requests.specs.declared.fault.WireFault.TheVariants.{Head, Length, Js
 use Rattle.requests.specs.declared.routes.Route.{Route}
 use Rattle.requests.specs.declared.routes.Route.TheVariants.{Post, Get}
 use Rattle.requests.specs.declared.routes.Shown.{Shown}
-use Rattle.requests.specs.declared.routes.Shown.TheVariants.{Books, OpenOrders, OpenOrdersBehind, ItemNames, ItemNamesBehind, Expiring, ExpiringBehind, Stock, Order, PickList, Shortages, Card, Notice}
+use Rattle.requests.specs.declared.routes.Shown.TheVariants.{Books, OpenOrders, OpenOrdersBehind, ItemNames, ItemNamesBehind, Expiring, ExpiringBehind, Bin, BinBehind, Stock, Order, PickList, Shortages, Card, Notice}
 use Rattle.requests.specs.declared.routes.Posted.{Posted}
 use Rattle.requests.specs.declared.routes.Posted.TheVariants.{GoodsIn as ToGoodsIn}
 use Rattle.requests.specs.declared.ask.Ask.{Ask}
 use Rattle.requests.specs.declared.ask.Ask.TheVariants.{GoodsIn, Show}
 use Rattle.requests.specs.declared.ask.Query.{Query}
-use Rattle.requests.specs.declared.ask.Query.TheVariants.{Books as AllBooks, OpenOrders as OpenOrdersFrom, ItemNames as ItemNamesFrom, Expiring as ExpiringFrom, Stock as StockOf, Order as OrderNamed, PickList as PickListOf, Shortages as ShortagesOf, Card as CardOf, Notice as NoticeOf}
+use Rattle.requests.specs.declared.ask.Query.TheVariants.{Books as AllBooks, OpenOrders as OpenOrdersFrom, ItemNames as ItemNamesFrom, Expiring as ExpiringFrom, Bin as BinFrom, Stock as StockOf, Order as OrderNamed, PickList as PickListOf, Shortages as ShortagesOf, Card as CardOf, Notice as NoticeOf}
 use Rattle.requests.specs.declared.request.Read.{Read}
 use Rattle.requests.specs.declared.request.Read.TheVariants.{Need, Bad, Request}
 
@@ -66,8 +66,8 @@ fourth_segment target = percent_decode (after_slash (after_slash (after_slash (a
 abbrev pub gtin_in : List ℕ → Option (List ℕ)
 gtin_in target = checked is_gtin (second_segment target)
 
-abbrev pub order_in : List ℕ → Option (List ℕ)
-order_in target = checked is_name (second_segment target)
+abbrev pub name_in : List ℕ → Option (List ℕ)
+name_in target = checked is_name (second_segment target)
 
 abbrev pub day_in : List ℕ → Option ℤ
 day_in target = option_and_then (checked is_business_day) (parsed_day (second_segment target))
@@ -87,14 +87,16 @@ lot_behind target = lot_named (inner_segment target) (fourth_segment target)
 abbrev pub query_of : Shown → List ℕ → Option Query
 query_of Books target = Some AllBooks
 query_of OpenOrders target = Some (OpenOrdersFrom None)
-query_of OpenOrdersBehind target = option_map (λ order. OpenOrdersFrom (Some order)) (order_in target)
+query_of OpenOrdersBehind target = option_map (λ order. OpenOrdersFrom (Some order)) (name_in target)
 query_of ItemNames target = Some (ItemNamesFrom None)
 query_of ItemNamesBehind target = option_map (λ gtin. ItemNamesFrom (Some gtin)) (gtin_in target)
 query_of Expiring target = option_map (λ day. ExpiringFrom day None) (day_in target)
 query_of ExpiringBehind target = option_and_then (λ day. option_map (λ lot. ExpiringFrom day (Some lot)) (lot_behind target)) (day_in target)
+query_of Bin target = option_map (λ bin. BinFrom bin None) (name_in target)
+query_of BinBehind target = option_and_then (λ bin. option_map (λ lot. BinFrom bin (Some lot)) (lot_behind target)) (name_in target)
 query_of Stock target = option_map StockOf (gtin_in target)
-query_of Order target = option_map OrderNamed (order_in target)
-query_of PickList target = option_map PickListOf (order_in target)
+query_of Order target = option_map OrderNamed (name_in target)
+query_of PickList target = option_map PickListOf (name_in target)
 query_of Shortages target = option_map ShortagesOf (gtin_in target)
 query_of Card target = option_map CardOf (lot_in target)
 query_of Notice target = option_map NoticeOf (lot_in target)

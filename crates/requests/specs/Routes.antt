@@ -13,7 +13,7 @@ use Rattle.requests.specs.declared.method.Method.TheVariants.{Get, Post}
 use Rattle.requests.specs.declared.routes.Route.{Route}
 use Rattle.requests.specs.declared.routes.Route.TheVariants.{Post as PostTo, Get as GetOf}
 use Rattle.requests.specs.declared.routes.Posted.TheVariants.{Items, Bins, Receipts, Moves, Counts, Adjustments, Orders, Cancels, Picks, Unpicks, Shipments, Holds, Releases, Recalls, Days, Leasts, Urgents, GoodsIn}
-use Rattle.requests.specs.declared.routes.Shown.TheVariants.{Order, Stock, PickList, Shortages, Card, Notice, Books, OpenOrders, OpenOrdersBehind, ItemNames, ItemNamesBehind, Expiring, ExpiringBehind}
+use Rattle.requests.specs.declared.routes.Shown.TheVariants.{Order, Stock, PickList, Shortages, Card, Notice, Books, OpenOrders, OpenOrdersBehind, ItemNames, ItemNamesBehind, Expiring, ExpiringBehind, Bin, BinBehind}
 
 -- the rows of a table
 abbrev pub Rows : Type 0
@@ -70,6 +70,8 @@ served =
     ∷ (codes "/itemnames/{gtin}", GetOf ItemNamesBehind)
     ∷ (codes "/expiring/{day}", GetOf Expiring)
     ∷ (codes "/expiring/{day}/{gtin}/{lot}", GetOf ExpiringBehind)
+    ∷ (codes "/bins/{bin}", GetOf Bin)
+    ∷ (codes "/bins/{bin}/{gtin}/{lot}", GetOf BinBehind)
     ∷ []
 
 unfoldable pub table : Rows

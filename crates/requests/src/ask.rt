@@ -13,6 +13,8 @@ pub enum Query {
     ItemNames(Option<Gtin>),
     /// The lots that expire up to a day, from their first or behind a lot.
     Expiring(BusinessDay, Option<LotId>),
+    /// The lots in a bin, from their first or behind a lot.
+    Bin(Name, Option<LotId>),
     /// The stock of an item.
     Stock(Gtin),
     /// An order.

@@ -1,6 +1,6 @@
 ghost use Rattle.std.specs.Prelude.{◌≡◌, ◌≢◌, ◌≤◌, Some, None, Ok, Err, IfOk, IfErr, IsUtf8, length, take};
 ghost use Rattle.percent_encoding.specs.Percent.{percent_decode as percent_decode_lem};
-ghost use Rattle.requests.specs.Requests.{after_slash as after_slash_lem, before_slash as before_slash_lem, second_segment as second_segment_lem, third_segment as third_segment_lem, inner_segment as inner_segment_lem, fourth_segment as fourth_segment_lem, gtin_in as gtin_in_lem, order_in as order_in_lem, day_in as day_in_lem, lot_named as lot_named_lem, lot_in as lot_in_lem, lot_behind as lot_behind_lem, query_of as query_of_lem, posted as posted_lem, read_route as read_route_lem, read_ask as read_ask_lem, answered as answered_lem, after_head as after_head_lem, IsReading};
+ghost use Rattle.requests.specs.Requests.{after_slash as after_slash_lem, before_slash as before_slash_lem, second_segment as second_segment_lem, third_segment as third_segment_lem, inner_segment as inner_segment_lem, fourth_segment as fourth_segment_lem, gtin_in as gtin_in_lem, name_in as name_in_lem, day_in as day_in_lem, lot_named as lot_named_lem, lot_in as lot_in_lem, lot_behind as lot_behind_lem, query_of as query_of_lem, posted as posted_lem, read_route as read_route_lem, read_ask as read_ask_lem, answered as answered_lem, after_head as after_head_lem, IsReading};
 ghost use Rattle.requests.specs.Head.{HEAD_MAX};
 
 use crate::bodies::body_of;
@@ -104,10 +104,10 @@ fn gtin_in(alloc: Global, target: &[u8]) -> Result<Gtin, WireFault>
     gtin_of(part.as_slice()).ok_or(WireFault::Field)
 }
 
-fn order_in(alloc: Global, target: &[u8]) -> Result<Name, WireFault>
-    ensures ok { IfOk result (λ v. order_in_lem target.now ≡ Some v) }
+fn name_in(alloc: Global, target: &[u8]) -> Result<Name, WireFault>
+    ensures ok { IfOk result (λ v. name_in_lem target.now ≡ Some v) }
     ensures err { IfErr result (λ e. e ≢ WireFault.Memory → (e ≡ WireFault.Field)
-        × (order_in_lem target.now ≡ None)) }
+        × (name_in_lem target.now ≡ None)) }
 {
     let part = second_segment(alloc, target)?;
     Name::new(part.as_slice()).ok_or(WireFault::Field)
@@ -157,7 +157,7 @@ fn open_orders_behind(alloc: Global, target: &[u8]) -> Result<Query, WireFault>
     ensures err { IfErr result (λ e. e ≢ WireFault.Memory → (e ≡ WireFault.Field)
         × (query_of_lem Shown.OpenOrdersBehind target.now ≡ None)) }
 {
-    let order = order_in(alloc, target)?;
+    let order = name_in(alloc, target)?;
     Ok(Query::OpenOrders(Some(order)))
 }
 
@@ -189,6 +189,25 @@ fn expiring_behind(alloc: Global, target: &[u8]) -> Result<Query, WireFault>
     Ok(Query::Expiring(day, Some(lot)))
 }
 
+fn bin(alloc: Global, target: &[u8]) -> Result<Query, WireFault>
+    ensures ok { IfOk result (λ q. query_of_lem Shown.Bin target.now ≡ Some q) }
+    ensures err { IfErr result (λ e. e ≢ WireFault.Memory → (e ≡ WireFault.Field)
+        × (query_of_lem Shown.Bin target.now ≡ None)) }
+{
+    let bin = name_in(alloc, target)?;
+    Ok(Query::Bin(bin, None))
+}
+
+fn bin_behind(alloc: Global, target: &[u8]) -> Result<Query, WireFault>
+    ensures ok { IfOk result (λ q. query_of_lem Shown.BinBehind target.now ≡ Some q) }
+    ensures err { IfErr result (λ e. e ≢ WireFault.Memory → (e ≡ WireFault.Field)
+        × (query_of_lem Shown.BinBehind target.now ≡ None)) }
+{
+    let bin = name_in(alloc, target)?;
+    let lot = lot_behind(alloc, target)?;
+    Ok(Query::Bin(bin, Some(lot)))
+}
+
 /// What a path shows: `W04` where a value in it breaks its rule. The only other fault is `W90`, for
 /// want of memory.
 pub fn query_of(alloc: Global, shown: Shown, target: &[u8]) -> Result<Query, WireFault>
@@ -204,9 +223,11 @@ pub fn query_of(alloc: Global, shown: Shown, target: &[u8]) -> Result<Query, Wir
         Shown::ItemNamesBehind => item_names_behind(alloc, target),
         Shown::Expiring => expiring(alloc, target),
         Shown::ExpiringBehind => expiring_behind(alloc, target),
+        Shown::Bin => bin(alloc, target),
+        Shown::BinBehind => bin_behind(alloc, target),
         Shown::Stock => gtin_in(alloc, target).map(Query::Stock),
-        Shown::Order => order_in(alloc, target).map(Query::Order),
-        Shown::PickList => order_in(alloc, target).map(Query::PickList),
+        Shown::Order => name_in(alloc, target).map(Query::Order),
+        Shown::PickList => name_in(alloc, target).map(Query::PickList),
         Shown::Shortages => gtin_in(alloc, target).map(Query::Shortages),
         Shown::Card => lot_in(alloc, target).map(Query::Card),
         Shown::Notice => lot_in(alloc, target).map(Query::Notice),

@@ -41,6 +41,8 @@ pub enum Shown {
     ItemNamesBehind,
     Expiring,
     ExpiringBehind,
+    Bin,
+    BinBehind,
     Stock,
     Order,
     PickList,
@@ -57,7 +59,7 @@ pub enum Route {
 }
 
 /// The routes that are served.
-pub static ROUTES: [(&str, Route); 31] = [
+pub static ROUTES: [(&str, Route); 33] = [
     ("/items", Route::Post(Posted::Items)),
     ("/bins", Route::Post(Posted::Bins)),
     ("/receipts", Route::Post(Posted::Receipts)),
@@ -92,6 +94,8 @@ pub static ROUTES: [(&str, Route); 31] = [
         "/expiring/{day}/{gtin}/{lot}",
         Route::Get(Shown::ExpiringBehind),
     ),
+    ("/bins/{bin}", Route::Get(Shown::Bin)),
+    ("/bins/{bin}/{gtin}/{lot}", Route::Get(Shown::BinBehind)),
 ];
 
 // Adds a route. Nothing is added where there is no memory, or where it conflicts with another.

@@ -13,7 +13,7 @@ ghost use Rattle.machine.specs.Standing.{today, RETURNS};
 ghost use Rattle.store.specs.Acting.{IsActed};
 ghost use Rattle.store.specs.Filing.{rows_of, AreKeysOf, IsFiled};
 ghost use Rattle.machine.specs.Queries.{order_shown, short_shown, stock_shown};
-ghost use Rattle.overviews.specs.Shown.{books_shown, open_orders_shown, item_names_shown, expiring_shown};
+ghost use Rattle.overviews.specs.Shown.{books_shown, open_orders_shown, item_names_shown, expiring_shown, bin_shown};
 ghost use Rattle.queries.specs.ShownActs.{acts_shown};
 ghost use Rattle.machine.specs.Views.{bins_of_lot, card_of_lot, shipments_of_lot};
 ghost use Rattle.store.specs.Heads.{card_head_shown, notice_head_shown};
@@ -38,9 +38,9 @@ use commands::{
     ShippedUnits, ShortView, Sink, StockView,
 };
 use label::{BusinessDay, Day};
-use overviews::{BooksView, ExpiringView, ItemNamesView, OpenOrdersView};
+use overviews::{BinView, BooksView, ExpiringView, ItemNamesView, OpenOrdersView};
 use queries::{
-    ActsQuery, BooksQuery, CardHeadQuery, ExpiringQuery, ItemNamesQuery, NoticeHeadQuery,
+    ActsQuery, BinQuery, BooksQuery, CardHeadQuery, ExpiringQuery, ItemNamesQuery, NoticeHeadQuery,
     OpenQuery, OrderQuery, ShortQuery, StockQuery,
 };
 use slices::Known;
@@ -448,6 +448,27 @@ impl<S: Alter> Books<S> {
         ensures survives { Survives (state S.Store self.old.conn) (state S.Store self.new.conn) (λ _. ⊥) }
     {
         let query = ExpiringQuery { day, behind };
+        show(
+            self.alloc,
+            &mut self.conn,
+            self.day,
+            &mut self.known,
+            &query,
+        )
+    }
+
+    /// Shows a page of the lots with units in the bin, by item, expiry and first receipt, from their first or behind a lot. A
+    /// bin that is not known is refused (U02), and then a lot that never came (U03); it may have no units there. Nothing is
+    /// changed; `Store` where memory or the disk did not suffice, and `Foreign` never on books of a history.
+    pub fn bin(&mut self, bin: Name, behind: Option<LotId>) -> Result<BinView, Fault>
+        ensures clean { IsClean S.Store self.new → IsClean S.Store self.old }
+        ensures shown { IsClean S.Store self.new → (first : ℤ) (acts : List Act) → IsHistory first acts → HoldsBooks S.Store first acts self.old
+            → IsShown S.Store first acts (bin_shown first acts bin behind) result self.new }
+        ensures as_before { IsClean S.Store self.new → AreAsBefore S.Store self.old self.new }
+        ensures stays { IsClean S.Store self.new → IsSettled (state S.Store self.new.conn) }
+        ensures survives { Survives (state S.Store self.old.conn) (state S.Store self.new.conn) (λ _. ⊥) }
+    {
+        let query = BinQuery { bin, behind };
         show(
             self.alloc,
             &mut self.conn,

@@ -51,6 +51,12 @@ GET /itemnames HTTP/1.1|| => list
 GET /itemnames/09506000134352 HTTP/1.1|| => items 09506000134352
 GET /expiring/2026-05-31 HTTP/1.1|| => list
 GET /expiring/2026-05-31/09506000134352/A%2FB HTTP/1.1|| => expiring 09506000134352 A/B
+GET /bins/A-01 HTTP/1.1|| => list
+GET /bins/A%2D01/09506000134352/A%2FB HTTP/1.1|| => bin A-01 09506000134352 A/B
+GET /bins/A-01/09506000134352 HTTP/1.1|| => W06
+GET /bins/A-01/09506000134353/L2 HTTP/1.1|| => W04
+GET /bins HTTP/1.1|| => W07
+POST /bins/A-01 HTTP/1.1|| => W07
 GET /stock HTTP/1.1|| => W06
 GET /stock/09506000134353 HTTP/1.1|| => W04
 GET /stock/%zz HTTP/1.1|| => W04
@@ -154,10 +160,16 @@ fn push_query(rt: &impl Abort, text: &mut Vec<u8>, query: &Query) {
         Query::Books
         | Query::OpenOrders(None)
         | Query::ItemNames(None)
-        | Query::Expiring(_, None) => ("list", b"".as_slice(), None),
+        | Query::Expiring(_, None)
+        | Query::Bin(_, None) => ("list", b"".as_slice(), None),
         Query::OpenOrders(Some(order)) => ("open orders ", order.as_bytes(), None),
         Query::ItemNames(Some(gtin)) => ("items ", gtin.as_bytes(), None),
         Query::Expiring(_, Some(lot)) => ("expiring ", lot.gtin.as_bytes(), Some(lot.lot)),
+        Query::Bin(bin, Some(lot)) => {
+            push(rt, text, b"bin ");
+            push(rt, text, bin.as_bytes());
+            (" ", lot.gtin.as_bytes(), Some(lot.lot))
+        }
         Query::Stock(gtin) => ("stock ", gtin.as_bytes(), None),
         Query::Order(order) => ("order ", order.as_bytes(), None),
         Query::PickList(order) => ("pick list ", order.as_bytes(), None),

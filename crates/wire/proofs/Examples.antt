@@ -1,11 +1,14 @@
 -- Some answers.
-use Rattle.std.proofs.Common.{◌≡◌, codes, refl, ◌++◌, ◌∷◌, [], false, pos, Some, None}
+use Rattle.std.proofs.Common.{◌≡◌, ℕ, ℤ, List, codes, refl, ◌++◌, ◌∷◌, [], false, pos, Some, None}
 use Rattle.json.specs.Print.{escape_byte}
 use Rattle.serde_json.specs.Written.{compact_text}
 use Rattle.commands.specs.declared.rows.OrderClass.TheVariants.{Normal}
+use Rattle.commands.specs.declared.command.BinKind.TheVariants.{Store}
+use Rattle.commands.specs.declared.views.LotStatus.TheVariants.{Free}
+use Rattle.overviews.specs.declared.lists.BinLot.{BinLot}
 use Rattle.overviews.specs.declared.lists.OpenOrder.{OpenOrder}
 use Rattle.overviews.specs.declared.lists.NamedItem.{NamedItem}
-use Rattle.wire.specs.Lists.{books_data, open_orders_data, item_names_data}
+use Rattle.wire.specs.Lists.{books_data, open_orders_data, item_names_data, bin_view_data}
 use Rattle.std.specs.Fmt.{digits}
 use Rattle.label.specs.Days.{date_of, date_after, date_in_year}
 use Rattle.commands.specs.Replies.{reply_text}
@@ -53,3 +56,12 @@ an_item_by_its_name = refl
 pub the_books : compact_text (books_data (record { act = 10; day = pos 20577 })) ≡ codes "{\"act\":10,\"day\":\"2026-05-04\",\"schema\":4}"
 unfolding digits escape_byte date_of date_after date_in_year
 the_books = refl
+
+abbrev in_bin : List ℕ → ℤ → ℕ → BinLot
+in_bin lot expiry qty = record { item = oat_drink.item; lot = lot; expiry = expiry; qty = qty; status = Free }
+
+-- the 10th and the 31st of May and the 30th of June 2026
+pub three_lots_in_a_bin : compact_text (bin_view_data (record { act = 10; bin = codes "A-01"; kind = Store; lots = in_bin (codes "L0") (pos 20583) 5 ∷ in_bin (codes "L2") (pos 20604) 10 ∷ in_bin (codes "L1") (pos 20634) 10 ∷ []; more = false }))
+    ≡ codes "{\"act\":10,\"bin\":\"A-01\",\"kind\":\"STORE\",\"lots\":[{\"expiry\":\"2026-05-10\",\"gtin\":\"09506000134352\",\"lot\":\"L0\",\"name\":\"Oat drink\",\"qty\":5,\"status\":\"FREE\"},{\"expiry\":\"2026-05-31\",\"gtin\":\"09506000134352\",\"lot\":\"L2\",\"name\":\"Oat drink\",\"qty\":10,\"status\":\"FREE\"},{\"expiry\":\"2026-06-30\",\"gtin\":\"09506000134352\",\"lot\":\"L1\",\"name\":\"Oat drink\",\"qty\":10,\"status\":\"FREE\"}],\"more\":false}"
+unfolding digits escape_byte date_of date_after date_in_year
+three_lots_in_a_bin = refl

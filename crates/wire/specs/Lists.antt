@@ -1,10 +1,12 @@
--- The JSON of the books, of open orders, of items and of lots that expire. The members of an object stand in the order of their names.
+-- The JSON of the books, of open orders, of items, of lots that expire and of what is in a bin. The members of an object stand in the order of their names.
 use Rattle.std.specs.Prelude.{ℕ, Bool, List, codes, map}
 use Rattle.serde_json.specs.Data.{Data, boolean, string, array, object, member, no_members}
 use Rattle.serde_json.specs.View.{items_of}
-use Rattle.commands.specs.Words.{order_class_word, lot_status_word}
+use Rattle.commands.specs.Words.{bin_kind_word, order_class_word, lot_status_word}
 use Rattle.commands.specs.declared.limits.TheConstants.{SCHEMA_VERSION}
 use Rattle.label.specs.Days.{day_text}
+use Rattle.overviews.specs.declared.lists.BinLot.{BinLot}
+use Rattle.overviews.specs.declared.lists.BinView.{BinView}
 use Rattle.overviews.specs.declared.lists.BooksView.{BooksView}
 use Rattle.overviews.specs.declared.lists.ExpiringView.{ExpiringView}
 use Rattle.overviews.specs.declared.lists.ItemLot.{ItemLot}
@@ -70,3 +72,21 @@ expiring_members act lots more = object (member (codes "act") (count act) (membe
 
 abbrev pub expiring_data : ExpiringView → Data
 expiring_data v = expiring_members v.act (array (items_of (map item_lot_data v.lots))) v.more
+
+-- Lots in a bin
+
+abbrev pub bin_lot_members : List ℕ → List ℕ → List ℕ → List ℕ → ℕ → List ℕ → Data
+bin_lot_members expiry gtin lot name qty status =
+    object (member (codes "expiry") (string expiry) (member (codes "gtin") (string gtin) (member (codes "lot") (string lot)
+    (member (codes "name") (string name) (member (codes "qty") (count qty) (member (codes "status") (string status) no_members))))))
+
+abbrev pub bin_lot_data : BinLot → Data
+bin_lot_data b = bin_lot_members (day_text b.expiry) b.item.gtin b.lot b.item.name b.qty (lot_status_word b.status)
+
+abbrev pub bin_view_members : ℕ → List ℕ → List ℕ → Data → Bool → Data
+bin_view_members act bin kind lots more =
+    object (member (codes "act") (count act) (member (codes "bin") (string bin) (member (codes "kind") (string kind) (member (codes "lots") lots
+    (member (codes "more") (boolean more) no_members)))))
+
+abbrev pub bin_view_data : BinView → Data
+bin_view_data v = bin_view_members v.act v.bin (bin_kind_word v.kind) (array (items_of (map bin_lot_data v.lots))) v.more

@@ -1,6 +1,7 @@
 ghost use Rattle.std.specs.Prelude.{◌≡◌, ◌+◌, ◌≤◌, ◌++◌, length, codes, decimal, IfOk, Some, None};
 ghost use Rattle.wire.specs.Answers.{phrase as phrase_lem, CRLF, json_type, allow_line, head_text, answer_text, answer_bytes};
 
+use crate::bin::bin_json;
 use crate::books::books_json;
 use crate::expiring::expiring_json;
 use crate::item_names::item_names_json;
@@ -9,7 +10,7 @@ use crate::order::order_json;
 use crate::stock::stock_json;
 use commands::{Buffer, Listed, OrderView, Short, StockView};
 use http::StatusCode;
-use overviews::{BooksView, ExpiringView, ItemNamesView, OpenOrdersView};
+use overviews::{BinView, BooksView, ExpiringView, ItemNamesView, OpenOrdersView};
 use requests::Method;
 use std::alloc::{AllocError, Global};
 
@@ -119,6 +120,8 @@ pub enum Answer {
     ItemNames(ItemNamesView),
     /// Lots that expire, as JSON.
     Expiring(ExpiringView),
+    /// What is in a bin, as JSON.
+    Bin(BinView),
     /// The stock of an item, as JSON.
     Stock(StockView),
     /// An order, as JSON.
@@ -146,6 +149,10 @@ pub fn write_answer(alloc: Global, answer: &Answer) -> Result<Vec<u8>, AllocErro
         }
         Answer::Expiring(shown) => {
             let body = expiring_json(alloc, shown)?;
+            with_head(alloc, b"application/json", body.as_slice())
+        }
+        Answer::Bin(shown) => {
+            let body = bin_json(alloc, shown)?;
             with_head(alloc, b"application/json", body.as_slice())
         }
         Answer::Stock(shown) => {

@@ -2,6 +2,7 @@
 #![tactic(auto)]
 
 mod answer;
+mod bin;
 mod books;
 mod expiring;
 mod item_names;

@@ -4,7 +4,7 @@ import { form } from "../form.js";
 import { set, setting } from "../kept.js";
 import { refuse } from "../told.js";
 import { chip, counted, expiryBar, grouped, sum, symbol } from "../draw.js";
-import { hasBins, inBin } from "../lists.js";
+import { inBin } from "../lists.js";
 import { find } from "./simple.js";
 import { growing } from "./open.js";
 
@@ -24,9 +24,7 @@ const lotIn = (bin, isStore) => it => tag("li", { class: isStore && it.status ==
 export function bin(name) {
   if (!name) return find("bin", "bin", "A bin");
   const head = tag("p", { class: "who" });
-  const told = async parts => (await hasBins() ? inBin(name, parts) : { lots: [], more: false });
-  const list = growing(told, found => {
-    if (!found.kind) return [];
+  const list = growing(parts => inBin(name, parts), found => {
     const kind = found.kind === "STORE" ? "STORE: to sell" : "HOLD: set aside";
     head.replaceChildren(tag("b", {}, found.lots.length ? `${counted(sum(found.lots), "unit")} of ${counted(found.lots.length, "lot")}${found.more ? " and more" : ""}` : "Empty"),
       tag("span", { class: "chip" + (found.kind === "STORE" ? "" : " held") }, kind));

@@ -4,7 +4,7 @@ import { bare, gtin, parts } from "../label.js";
 import { nameOf, order } from "../ask.js";
 import { refuse } from "../told.js";
 import { wasAtOnce } from "../scan.js";
-import { hasBins, inBin, itemsNamed } from "../lists.js";
+import { inBin, itemsNamed } from "../lists.js";
 import { hits } from "../hits.js";
 import { counted, grouped, sum } from "../draw.js";
 import { facts } from "./state.js";
@@ -21,14 +21,13 @@ const isThere = wanted => wanted.then(() => true, () => false);
 async function openWhat(text) {
   const number = gtin(text), name = text.toUpperCase();
   if (number && await nameOf(number)) return open("item", number);
-  const tellsBins = await hasBins().catch(() => false);
-  const [isOrder, isBin] = await Promise.all([isThere(order(name)), tellsBins && isThere(inBin(name, 1))]);
+  const [isOrder, isBin] = await Promise.all([isThere(order(name)), isThere(inBin(name, 1))]);
   if (isOrder) return open("order", name);
   if (isBin) return open("bin", name);
   if (number) return open("item", number);
   const found = await itemsNamed(text).catch(() => []);
   if (found.length === 1) return open("item", found[0].gtin);
-  open(...(found.length ? ["items named", text] : [tellsBins ? "order" : "bin", name]));
+  open(...(found.length ? ["items named", text] : ["order", name]));
 }
 
 /** One field for anything that is scanned, or an item's name; a number of the menu is typed, and not scanned. */
@@ -62,7 +61,6 @@ export function named(text) {
 }
 
 async function returnsAtHome() {
-  if (!await hasBins()) return [];
   const { lots, more } = await inBin("RETURNS", 1);
   return [tag("h2", {}, tag("a", { href: "#/bin/RETURNS" }, lots.length ? `In RETURNS: ${counted(sum(lots), "unit")}${more ? " and more" : ""}` : "Nothing in RETURNS")),
     tag("ul", { class: "plain" }, lots.slice(0, 5).map(it => tag("li", {}, tag("a", { href: `#/lot/${it.gtin}/${encodeURIComponent(it.lot)}` }, it.lot),

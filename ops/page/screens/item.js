@@ -4,7 +4,7 @@ import { act } from "../outbox.js";
 import { form } from "../form.js";
 import { shortages, stock } from "../ask.js";
 import { setting } from "../kept.js";
-import { hasBins, isStore } from "../lists.js";
+import { isStore } from "../lists.js";
 import { binBars, chip, counted, expiryBar, grouped, sum } from "../draw.js";
 
 /** What may still be promised: units of free lots in bins to sell from that no order has. */
@@ -30,9 +30,9 @@ export function item(gtin) {
     const [all, wanted] = await Promise.all([stock(gtin), shortages(gtin)]);
     const there = all.lots.filter(it => it.bins.length || it.staged), total = sum(there, "staged") + sum(there.flatMap(it => it.bins));
     const gone = all.lots.length - there.length, most = Math.max(1, ...there.flatMap(it => it.bins).map(it => it.qty));
-    const free = await unpromised(there), isKnown = await hasBins();
+    const free = await unpromised(there);
     view.replaceChildren(tag("h2", {}, all.name, " ", tag("small", {}, gtin)),
-      tag("p", { class: "promise" }, !isKnown && "at most ", tag("b", {}, grouped(free)), " may still be promised", !isKnown && ", less what lies in bins that are set aside"),
+      tag("p", { class: "promise" }, tag("b", {}, grouped(free)), " may still be promised"),
       tag("p", {}, `${grouped(total)} units in ${counted(there.length, "lot")}`, gone > 0 && `; ${counted(gone, "lot")} ${gone === 1 ? "is" : "are"} gone`),
       tag("ul", { class: "lines" }, there.map(card(most))));
     shorts.replaceChildren(tag("h2", {}, wanted.total ? `Short ${grouped(wanted.total)}` : "Nothing is short"),

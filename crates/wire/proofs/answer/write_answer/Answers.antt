@@ -19,5 +19,9 @@ pub returns-in_ok-body-in-Expiring : goal.returns-in_ok-body-in-Expiring
 returns-in_ok-body-in-Expiring c =
     rw c.in-Expiring.is (subst (λ (body : List ℕ). IfOk c.with_head-in-Expiring.result (λ b. b.items ≡ answer_text 200 json_type None body)) (c.as_slice-in-Expiring.ensures.value ∙ c.in_ok-body-in-Expiring.ensures) c.with_head-in-Expiring.ensures)
 
+pub returns-in_ok-body-in-Bin : goal.returns-in_ok-body-in-Bin
+returns-in_ok-body-in-Bin c =
+    rw c.in-Bin.is (subst (λ (body : List ℕ). IfOk c.with_head-in-Bin.result (λ b. b.items ≡ answer_text 200 json_type None body)) (c.as_slice-in-Bin.ensures.value ∙ c.in_ok-body-in-Bin.ensures) c.with_head-in-Bin.ensures)
+
 pub returns-in-Text : goal.returns-in-Text
 returns-in-Text c = rw c.in-Text.is (search rules)
