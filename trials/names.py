@@ -1,7 +1,7 @@
 """Each name in the documents is one of the tree: README.md, crates/README.md and docs/*.md are read, and of each name in
 backquotes it is asked whether there is such a crate, file, folder, route, line of the program, table, column, scenario or code,
 or such a function, type, variant, field, module, clause or definition of the crates. `a::b` is asked for within one crate. And
-whether the picture in README.md has every crate of crates.txt.
+whether the picture in README.md has every crate of crates.txt, each before those that it calls.
 
 What is not found is printed with its file and line. EXCEPTIONS has the words that are of others: of the shell, of HTTP, of SQL,
 of the kit, of the page's devices. Needs python3 alone, and takes a second or two. Exit status 0 only if nothing was printed.
@@ -185,22 +185,40 @@ def unknown():
                         yield f"{page}:{number}: `{token}`"
 
 
-def missing_in_picture():
-    """The crates that stand in no block of README.md."""
-    blocks = re.findall(r"```\n(.*?)```", text_of("README.md"), re.S)
-    shown = {word for block in blocks for word in re.findall(r"\w+", block)}
+def calls():
+    """The crates of crates.txt, with those that each calls."""
+    lines = [line.partition(":") for line in text_of("crates.txt").splitlines() if line.strip() and not line.startswith("#")]
+    return {name.strip(): [crate for crate in called.split() if crate in CRATES] for name, _, called in lines}
+
+
+def picture():
+    """The places of the crates in the picture of README.md, a number for those that stand side by side: the lines from above, and
+    the marks between the words of each. Tests stand above all."""
+    blocks = [block for block in re.findall(r"```\n(.*?)```", text_of("README.md"), re.S) if "lotd" in block and "house" in block]
+    parts = blocks[-1].split("\n\n") if blocks else []
+    lines = [line for part in reversed(parts) for line in part.splitlines()]
+    groups = [group for line in lines for group in re.split(r"\s{2,}", line, maxsplit=1)[-1].split("·")]
+    return {crate: place for place, group in enumerate(groups) for crate in group.split()}
+
+
+def not_in_picture():
+    """What the picture lacks or has otherwise than crates.txt; and what crates/README.md does."""
+    places = picture()
     listed = set(re.findall(r"^\| `(\w+)` \|", text_of("crates/README.md"), re.M))
-    for crate in CRATES:
-        if crate not in shown:
+    for crate, called in calls().items():
+        if crate not in places:
             yield f"README.md: the picture lacks {crate}"
+        for other in called:
+            if places.get(crate, -1) >= places.get(other, len(places)):
+                yield f"README.md: {crate} calls {other}, and does not stand before it in the picture"
         if crate not in listed:
             yield f"crates/README.md: no line for {crate}"
-    for crate in sorted(listed - set(CRATES)):
-        yield f"crates/README.md: no such crate as {crate}"
+    for crate in sorted((listed | set(places)) - set(CRATES)):
+        yield f"no such crate as {crate}"
 
 
 def main():
-    told = list(unknown()) + list(missing_in_picture())
+    told = list(unknown()) + list(not_in_picture())
     print("\n".join(told) if told else "every name is there")
     return 1 if told else 0
 
