@@ -1,7 +1,8 @@
 """Each name in the documents is one of the tree: README.md, crates/README.md and docs/*.md are read, and of each name in
 backquotes it is asked whether there is such a crate, file, folder, route, line of the program, table, column, scenario or code,
-or such a function, type, variant, field, module, clause or definition of the crates. `a::b` is asked for within one crate. And
-whether the picture in README.md has every crate of crates.txt, each before those that it calls.
+or such a function, type, variant, field, module, clause or definition of the crates. `a::b` is asked for within one crate. Each
+page that a link leads to is there, and each heading that is named behind it. And the picture in README.md has every crate of
+crates.txt, each before those that it calls.
 
 What is not found is printed with its file and line. EXCEPTIONS has the words that are of others: of the shell, of HTTP, of SQL,
 of the kit, of the page's devices. Needs python3 alone, and takes a second or two. Exit status 0 only if nothing was printed.
@@ -44,11 +45,6 @@ def text_of(path):
         return file.read()
 
 
-def crates_named():
-    lines = [line.split(":")[0].strip() for line in text_of("crates.txt").splitlines() if line.strip() and not line.startswith("#")]
-    return [line for line in lines if line]
-
-
 def files_of():
     listed = subprocess.run(["git", "ls-files"], capture_output=True, text=True, check=True).stdout.splitlines()
     return [path for path in listed if os.path.exists(path)] + ["trials/names.py"]
@@ -56,7 +52,17 @@ def files_of():
 
 FILES = files_of()
 FOLDERS = {path[:at] for path in FILES for at in (m.start() for m in re.finditer("/", path))}
-CRATES = crates_named()
+
+
+def calls_of():
+    """The crates of crates.txt, with those of them that each calls."""
+    lines = [line.partition(":") for line in text_of("crates.txt").splitlines() if line.strip() and not line.startswith("#")]
+    names = {name.strip() for name, _, _ in lines}
+    return {name.strip(): [crate for crate in called.split() if crate in names] for name, _, called in lines}
+
+
+CALLS = calls_of()
+CRATES = list(CALLS)
 
 RUST = re.compile(r"\b(?:fn|struct|enum|trait|mod|const|static|type|union) (\w+)|\bensures (\w+) \{|^\s*(?:pub(?:\([a-z]+\))? )?(?:ghost )?(\w+):"
                   r"|^\s+([A-Z]\w*)(?=[,({ ]|$)|\bghost (\w+) =|<(?:'\w+, )?(?:const )?([A-Z]\w*)\b|\b(\w+) as \w+", re.M)
@@ -172,23 +178,32 @@ def is_known(token):
     return True
 
 
+def is_link(page, path, heading):
+    """There is such a file, and such a heading in it, where one is named behind the link."""
+    path = os.path.normpath(os.path.join(os.path.dirname(page), path))
+    if not os.path.exists(path):
+        return False
+    return not heading or re.search(rf"^#+ (?:\d+\. )?{re.escape(heading)}( \(.*)?$", text_of(path), re.M) is not None
+
+
+def unknown_in(page, number, line):
+    for token in re.findall(r"`([^`]+)`", line):
+        if not is_known(token):
+            yield f"{page}:{number}: `{token}`"
+    for path, heading in re.findall(r'\]\(([\w./-]+)\)(?:, "([^"]+)")?', line):
+        if not is_link(page, path, heading):
+            yield f"{page}:{number}: {path} {heading}"
+
+
 def unknown():
+    """What the pages name or link to, and is not there. Blocks of text are passed over."""
     pages = ["README.md", "crates/README.md"] + sorted(path for path in FILES if re.fullmatch(r"docs/\w+\.md", path))
     for page in pages:
-        within = False
+        is_block = False
         for number, line in enumerate(text_of(page).splitlines(), 1):
-            if line.startswith("```"):
-                within = not within
-            if not within:
-                for token in re.findall(r"`([^`]+)`", line):
-                    if not is_known(token):
-                        yield f"{page}:{number}: `{token}`"
-
-
-def calls():
-    """The crates of crates.txt, with those that each calls."""
-    lines = [line.partition(":") for line in text_of("crates.txt").splitlines() if line.strip() and not line.startswith("#")]
-    return {name.strip(): [crate for crate in called.split() if crate in CRATES] for name, _, called in lines}
+            is_block ^= line.startswith("```")
+            if not is_block:
+                yield from unknown_in(page, number, line)
 
 
 def picture():
@@ -205,7 +220,7 @@ def not_in_picture():
     """What the picture lacks or has otherwise than crates.txt; and what crates/README.md does."""
     places = picture()
     listed = set(re.findall(r"^\| `(\w+)` \|", text_of("crates/README.md"), re.M))
-    for crate, called in calls().items():
+    for crate, called in CALLS.items():
         if crate not in places:
             yield f"README.md: the picture lacks {crate}"
         for other in called:
