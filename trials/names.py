@@ -26,7 +26,7 @@ EXCEPTIONS = {
     "words of SQL and of SQLite": "sqlite_stat1",
     "tools of the host": "debootstrap df dmesg awk python3 cc copytruncate nice COPY ReadWritePaths SIGSEGV chromium",
     "words of HTTP, of a browser and of a device": "Origin Esc",
-    "stands for any such name in a page that tells how something is added": "judge_X change_X X_seen",
+    "stands for any such name in a page that tells how something is added": "judge_X change_X X_seen X_told X_changes X_posted",
 }
 # Paths of the host, of the proxy, and of what an installation makes.
 ELSEWHERE = ("/etc/", "/usr/", "/var/", "/mnt/", "/root/", "/dev/", "/tmp/", "/state/", "/page/", "/dots/", "/PATH")
