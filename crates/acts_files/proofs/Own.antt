@@ -13,7 +13,7 @@ use Rattle.histories.specs.Newer.{act_line, newer_text}
 use Rattle.histories.proofs.Acts.{earlier}
 use Rattle.acts_files.specs.Faults.{IsNoMisfit}
 use Rattle.acts_files.specs.Torn.{Begins}
-use Rattle.acts_files.specs.Opened.{IsOwn, IsTail, IsRefused, IsNotOpenedBy, Misfits}
+use Rattle.acts_files.specs.Opened.{IsOwn, IsTail, IsRefused, IsNotOpenedBy}
 use Rattle.acts_files.specs.declared.fault.ActsFault.{ActsFault}
 use Rattle.acts_files.specs.declared.fault.ActsFault.TheVariants.{File, Store, Foreign, Differs, Lacks}
 use Rattle.acts_files.proofs.LineBytes.{line_stands}
