@@ -41,14 +41,16 @@ module _ {D : Type 0} (g : Ghosts D) (begun : ℤ) where
   -- no more were added, and no call on the file failed
   pub lacks_whole : (newer older : List Act) (old file : ActsFile D) (has : KeepsNext g begun newer older file) → LacksNext g begun newer older old file
   lacks_whole newer older old file has = record {
-    added = has.added;
-    later = has.later;
-    parts = has.parts;
-    next = [];
-    beyond = has.later;
-    split = sym (append-nil has.later);
-    few = omega arith;
-    left = few_of g begun (has.added ++ older) file 0 has.keeps;
+    has = record {
+      added = has.added;
+      later = has.later;
+      parts = has.parts;
+      next = [];
+      beyond = has.later;
+      split = sym (append-nil has.later);
+      few = omega arith;
+      left = few_of g begun (has.added ++ older) file 0 has.keeps;
+    };
     why = inr (λ clean. has.keeps.text clean);
   }
 
@@ -56,14 +58,16 @@ module _ {D : Type 0} (g : Ghosts D) (begun : ℤ) where
   pub lacks_lines : (newer older : List Act) (old new : ActsFile D) (bytes : List ℕ) (lines : HistoryLines (Vec ℕ Global)) (h : AreNextLines begun 1_000 newer older lines) → bytes ≡ lines.out.items → KeepsActs g begun older old → new.len ≡ old.len
       → (IsCleanFile g new → HasAtMost g (history_text begun older) (length bytes) new.disk) → MoreFaults (g.faults old.disk) (g.faults new.disk) ⊎ IsSameFile g old.disk new.disk → LacksNext g begun newer older old new
   lacks_lines newer older old new bytes lines h is keeps len few fails = record {
-    added = [];
-    later = newer;
-    parts = sym (append-nil newer);
-    next = h.next;
-    beyond = h.are_next.later;
-    split = h.are_next.parts;
-    few = h.are_next.few;
-    left = λ clean. subst (λ n. HasAtMost g (history_text begun older) n new.disk) (ap length (is ∙ h.are.text)) (few clean);
+    has = record {
+      added = [];
+      later = newer;
+      parts = sym (append-nil newer);
+      next = h.next;
+      beyond = h.are_next.later;
+      split = h.are_next.parts;
+      few = h.are_next.few;
+      left = λ clean. subst (λ n. HasAtMost g (history_text begun older) n new.disk) (ap length (is ∙ h.are.text)) (few clean);
+    };
     why = elim fails [
       | inl failed ↦ inl failed
       | inr same ↦ inr (λ clean. let t = keeps.text (same.clean clean) in record { long = len ∙ t.long; seen = same.seen ∙ t.seen; left = λ c may. t.left c (same.left c may) })
@@ -73,16 +77,19 @@ module _ {D : Type 0} (g : Ghosts D) (begun : ℤ) where
   -- the same after some were added
   pub lacks_then : (newer older : List Act) (old mid new : ActsFile D) → g.faults mid.disk ≡ g.faults old.disk → (one : KeepsNext g begun newer older mid) → LacksNext g begun one.later (one.added ++ older) mid new → LacksNext g begun newer older old new
   lacks_then newer older old mid new steady one two =
-      let whole : two.added ++ (one.added ++ older) ≡ (two.added ++ one.added) ++ older = sym (append_assoc two.added one.added older) in
+      let add = two.has in
+      let whole : add.added ++ (one.added ++ older) ≡ (add.added ++ one.added) ++ older = sym (append_assoc add.added one.added older) in
       record {
-        added = two.added ++ one.added;
-        later = two.later;
-        parts = one.parts ∙ ap (λ l. l ++ one.added) two.parts ∙ append_assoc two.later two.added one.added;
-        next = two.next;
-        beyond = two.beyond;
-        split = two.split;
-        few = two.few;
-        left = subst (λ l. IsCleanFile g new → HasAtMost g (history_text begun l) (length (newer_text begun two.next l)) new.disk) whole two.left;
+        has = record {
+          added = add.added ++ one.added;
+          later = add.later;
+          parts = one.parts ∙ ap (λ l. l ++ one.added) add.parts ∙ append_assoc add.later add.added one.added;
+          next = add.next;
+          beyond = add.beyond;
+          split = add.split;
+          few = add.few;
+          left = subst (λ l. IsCleanFile g new → HasAtMost g (history_text begun l) (length (newer_text begun add.next l)) new.disk) whole add.left;
+        };
         why = elim two.why [
           | inl failed ↦ inl (subst (λ n. MoreFaults n (g.faults new.disk)) steady failed)
           | inr same ↦ inr (subst (λ l. IsCleanFile g new → HasText g (history_text begun l) new.len new.disk) whole same)

@@ -2,7 +2,10 @@ mod Appended
 mod Lines
 mod Numbers
 mod Read
-mod TextParts
+pub mod TextParts
+mod LineBytes
+mod Tails
+pub mod Own
 pub mod Same
 pub mod Opens
 mod Chunks

@@ -20,6 +20,7 @@ use Rattle.acts_files.specs.declared.opening.NotOpened.{NotOpened}
 use Rattle.acts_files.specs.declared.fault.ActsFault.{ActsFault}
 use Rattle.acts_files.specs.declared.fault.ActsFault.TheVariants.{File, Store, Foreign, Differs, Lacks}
 use Rattle.acts_files.proofs.Same.{same_then, more_passed, not_there, passed_same}
+use Rattle.acts_files.proofs.Tails.{no_part, not_left, not_part}
 use Rattle.acts_files.proofs.TextParts.{no_newer}
 
 module _ {D : Type 0} (g : Ghosts D) (begun : ℤ) where
@@ -110,7 +111,7 @@ module _ {D : Type 0} (g : Ghosts D) (begun : ℤ) where
       → (IsCleanFile g new → ¬ IsLeftOf (newer_text begun next older) (rest_of g old)) → IsOther g begun newer older old new (Differs n)
   differs newer older n old new next number stops are same unlike = record {
     same = same;
-    other = λ clean. inl (next, are, unlike clean);
+    other = λ clean. not_left newer older next (rest_of g old) begun are (λ none. stops.some (no_part stops.are_next none)) (unlike clean);
     misfits = λ clean.
         let one = one_more stops.next older (rest_of g old) stops.some stops.are_next.few (stops.unlike (same.clean clean)) in
         (number, inl (stops.are_next.later, one.0, stops.are_next.parts ∙ ap (λ l. stops.are_next.later ++ l) one.1, one.2));
@@ -218,7 +219,7 @@ module _ {D : Type 0} (g : Ghosts D) (begun : ℤ) where
       → IsOther g begun [] acts old new fault
   other_behind acts n old new fault number same other misfits = record {
     same = same;
-    other = λ clean. inr (refl, λ part. other clean (subst (λ m. IsPartOf m (rest_of g old)) (sym number) part));
+    other = λ clean. not_part begun acts (rest_of g old) (λ part. other clean (subst (λ m. IsPartOf m (rest_of g old)) (sym number) part));
     misfits = misfits;
   }
 

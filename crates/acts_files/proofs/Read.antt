@@ -1,12 +1,13 @@
 -- What was read of a file.
-use Rattle.std.proofs.Common.{◌≡◌, ℕ, ◌+◌, ◌-◌, ◌<◌, ◌≤◌, List, ◌++◌, append-nil, append_assoc, length, length-append, length-drop, take, take-append-drop, drop, inl, inr, sym, ap, subst, ◌∙◌, arith}
+use Rattle.std.proofs.Common.{◌≡◌, ℕ, ◌+◌, ◌-◌, ◌<◌, ◌≤◌, ◌≢◌, List, [], ◌∷◌, ◌++◌, get_or, append-nil, append_assoc, length, length-append, length-drop, take, take-append-drop, drop, inl, inr, sym, ap, subst, ◌∙◌, arith}
 use Rattle.std.specs.Prelude.{min}
-use Rattle.std.proofs.Math.Seq.{take-append_seam}
+use Rattle.std.proofs.Math.Seq.{take-append_seam, get_or-append_seam}
 use Rattle.std.proofs.lemmas.Bool.{cases_lt}
-use Rattle.std.proofs.lemmas.List.{drop_all, ext_get_or}
-use Rattle.std.proofs.lemmas.List.Prefix.{at_from_reads, at_reads}
+use Rattle.std.proofs.lemmas.List.{drop_all, ext_get_or, get_or_append_left, take-append-le}
+use Rattle.std.proofs.lemmas.List.Elements.{All-get_or}
+use Rattle.std.proofs.lemmas.List.Prefix.{at_from_reads, at_reads, front_reads}
 use Rattle.sqlite_disk.specs.Disk.{Holds}
-use Rattle.act_lines.specs.Reading.{Bears}
+use Rattle.act_lines.specs.Reading.{Bears, IsLine}
 use Rattle.acts_files.specs.Torn.{Begins, IsPartOf}
 
 -- bytes that a file has at a place are those behind it
@@ -57,3 +58,37 @@ module _ (n : ℕ) (c head : List ℕ) (at size : ℕ) (whole : size ≡ length 
         let is : length head ≡ 8_192 = omega (arith, full, long) in
         sym (ap (λ k. take k (drop at c)) (sym is) ∙ ap (take (length head)) (stand c head at holds) ∙ take-append_seam head (drop (at + length head) c))
   ]
+
+-- ---- the first line
+
+-- bytes that a file has first begin with its first line
+pub first_taken : (c head line more : List ℕ) → Holds c 0 head → c ≡ line ++ more → length line ≤ length head → take (length line) head ≡ line
+first_taken c head line more holds is low =
+    sym (take-append-le (length line) head (drop (0 + length head) c) low) ∙ ap (take (length line)) (sym (stand c head 0 holds) ∙ is) ∙ take-append_seam line more
+
+pub first_begins : (c head line more : List ℕ) → Holds c 0 head → c ≡ line ++ more → length line ≤ length head → head ≡ line ++ drop (length line) head
+first_begins c head line more holds is low =
+    sym (take-append-drop (length line) head) ∙ ap (λ l. l ++ drop (length line) head) (first_taken c head line more holds is low)
+
+-- a line ends with the first line feed
+module _ (bytes line more : List ℕ) (is : bytes ≡ line ++ more) (whole : IsLine line) where
+  long : length line ≡ length whole.body + 1
+  long = ap length whole.is ∙ length-append whole.body (10 ∷ [])
+
+  feed : get_or bytes (length whole.body) 0 ≡ 10
+  feed = front_reads 0 bytes line more is (length whole.body) (omega (arith, long)) ∙ ap (λ l. get_or l (length whole.body) 0) whole.is ∙ get_or-append_seam whole.body 10 [] 0
+
+  pub ends_at : (i : ℕ) → ((k : ℕ) → k < i → get_or bytes k 0 ≢ 10) → get_or bytes i 0 ≡ 10 → i + 1 ≡ length line
+  ends_at i none ten = elim (cases_lt (length whole.body) i) [
+    | inl before ↦ absurd (none (length whole.body) before feed)
+    | inr from ↦ elim (cases_lt i (length whole.body)) [
+      | inl within ↦
+          let here : get_or bytes i 0 ≡ get_or whole.body i 0 =
+          front_reads 0 bytes line more is i (omega (arith, within, long)) ∙ ap (λ l. get_or l i 0) whole.is ∙ get_or_append_left whole.body (10 ∷ []) 0 i within in
+          absurd (All-get_or (λ b. b ≢ 10) whole.body i 0 within whole.one (sym here ∙ ten))
+      | inr at ↦ omega (arith, from, at, long)
+    ]
+  ]
+
+  pub has_end : ((k : ℕ) → k < length bytes → get_or bytes k 0 ≢ 10) → ⊥
+  has_end none = let n = ap length is ∙ length-append line more in none (length whole.body) (omega (arith, n, long)) feed

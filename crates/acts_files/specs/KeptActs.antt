@@ -55,10 +55,9 @@ pub record KeepsNext {D : Type 0} (g : Ghosts D) (begun : ℤ) (newer older : Li
   pub parts : newer ≡ later ++ added
   pub keeps : KeepsActs g begun (added ++ older) file
 
--- Lines of the next acts could not be added. Those of some of them may have been, and whatever a stop leaves of the file is the lines
--- of these acts and at most as many bytes as those of the next ones, a thousand at most, have. What it reads as is just these lines, unless
--- a call on it failed.
-pub record LacksNext {D : Type 0} (g : Ghosts D) (begun : ℤ) (newer older : List Act) (old new : ActsFile D) : Type 0 where
+-- Whatever a stop leaves of the file is the lines of the older acts, of some of the newer ones, and at most as many bytes behind them
+-- as the lines of the next ones have, a thousand at most.
+pub record HasAdded {D : Type 0} (g : Ghosts D) (begun : ℤ) (newer older : List Act) (disk : D) : Type 0 where
   pub added : List Act
   pub later : List Act
   pub parts : newer ≡ later ++ added
@@ -66,8 +65,12 @@ pub record LacksNext {D : Type 0} (g : Ghosts D) (begun : ℤ) (newer older : Li
   pub beyond : List Act
   pub split : later ≡ beyond ++ next
   pub few : length next ≤ 1_000
-  pub left : IsCleanFile g new → HasAtMost g (history_text begun (added ++ older)) (length (newer_text begun next (added ++ older))) new.disk
-  pub why : MoreFaults (g.faults old.disk) (g.faults new.disk) ⊎ (IsCleanFile g new → HasText g (history_text begun (added ++ older)) new.len new.disk)
+  pub left : IsTrue (g.is_clean disk) → HasAtMost g (history_text begun (added ++ older)) (length (newer_text begun next (added ++ older))) disk
+
+-- Lines of the next acts could not be added. What the file reads as is just the lines of those that were, unless a call on it failed.
+pub record LacksNext {D : Type 0} (g : Ghosts D) (begun : ℤ) (newer older : List Act) (old new : ActsFile D) : Type 0 where
+  pub has : HasAdded g begun newer older new.disk
+  pub why : MoreFaults (g.faults old.disk) (g.faults new.disk) ⊎ (IsCleanFile g new → HasText g (history_text begun (has.added ++ older)) new.len new.disk)
 
 -- the acts are the oldest of all
 abbrev pub AreOldest : (older all : List Act) → Type 0

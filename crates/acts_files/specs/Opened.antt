@@ -59,10 +59,6 @@ abbrev pub IsTail : ℤ → (newer older : List Act) → List ℕ → Type 0
 IsTail begun newer older tail =
     ((next : List Act) × AreNext 1_000 newer next × IsLeftOf (newer_text begun next older) tail) ⊎ ((newer ≡ []) × IsPartOf (next_number older) tail)
 
-abbrev pub IsNoTail : ℤ → (newer older : List Act) → List ℕ → Type 0
-IsNoTail begun newer older rest =
-    ((next : List Act) × AreNext 1_000 newer next × ¬ IsLeftOf (newer_text begun next older) rest) ⊎ ((newer ≡ []) × ¬ IsPartOf (next_number older) rest)
-
 module _ {D : Type 0} (g : Ghosts D) where
   -- it is known how many bytes the file has
   abbrev pub IsMeasured : (size : ℕ) → ActsFile D → Type 0
@@ -82,7 +78,7 @@ module _ {D : Type 0} (g : Ghosts D) where
     -- it was not, and nothing was changed
     pub record IsOther (fault : ActsFault) : Type 0 where
       pub same : IsSameFile g old.disk new.disk
-      pub other : IsCleanFile g new → IsNoTail begun newer older (rest_of g old)
+      pub other : IsCleanFile g new → ¬ IsTail begun newer older (rest_of g old)
       pub misfits : IsCleanFile g new → Misfits begun newer older (rest_of g old) fault
 
     abbrev pub IsNotPutBy : (told fault : ActsFault) → Type 0
@@ -94,6 +90,15 @@ module _ {D : Type 0} (g : Ghosts D) where
 
     abbrev pub IsNotPut : ActsFault → Type 0
     IsNotPut fault = IsNotPutBy fault fault
+
+-- The file is that of these acts: it has the lines of the oldest, and behind them at most what a stop leaves of the next ones.
+pub record IsOwn {D : Type 0} (g : Ghosts D) (begun : ℤ) (acts : List Act) (disk : D) : Type 0 where
+  pub older : List Act
+  pub newer : List Act
+  pub parts : acts ≡ newer ++ older
+  pub tail : List ℕ
+  pub has : g.seen disk ≡ history_text begun older ++ tail
+  pub torn : IsTail begun newer older tail
 
 -- The file had the lines of the oldest acts, and behind them at most what a stop leaves of the next ones. It keeps all acts now.
 pub record IsOpened {D : Type 0} (g : Ghosts D) (begun : ℤ) (acts : List Act) (disk : D) (file : ActsFile D) : Type 0 where
@@ -113,7 +118,7 @@ pub record IsRefused {D : Type 0} (g : Ghosts D) (begun : ℤ) (acts : List Act)
   pub parts : acts ≡ newer ++ older
   pub rest : List ℕ
   pub has : IsTrue (g.is_clean new) → g.seen disk ≡ history_text begun older ++ rest
-  pub other : IsTrue (g.is_clean new) → IsNoTail begun newer older rest
+  pub other : IsTrue (g.is_clean new) → ¬ IsTail begun newer older rest
   pub misfits : IsTrue (g.is_clean new) → Misfits begun newer older rest fault
 
 abbrev pub IsNotOpenedBy : {D : Type 0} → Ghosts D → ℤ → List Act → (disk new : D) → (fault told : ActsFault) → Type 0

@@ -1,11 +1,13 @@
 //! What a file has at a place.
 
-ghost use Rattle.std.specs.Prelude.{◌≡◌, ◌+◌, ◌≤◌, IsTrue, IfOk, IfErr, OnOk, true, false, length};
+ghost use Rattle.std.specs.Prelude.{◌≡◌, ◌+◌, ◌≤◌, ◌++◌, ℕ, List, IsTrue, IfOk, IfErr, OnOk, true, false, length};
 ghost use Rattle.sqlite_disk.specs.Disk.{Holds};
+ghost use Rattle.act_lines.specs.Reading.{IsLine};
 ghost use Rattle.acts_files.specs.Kept.{IsSameFile};
 ghost use Rattle.acts_files.specs.Faults.{IsOfFile};
 
 use crate::fault::ActsFault;
+use act_lines::LINE_MAX;
 use sqlite_disk::Disk;
 use std::alloc::Global;
 
@@ -63,4 +65,28 @@ pub(crate) fn has_there<D: Disk>(
     }
     let found = bytes_at(alloc, disk, at, bytes.len())?;
     Ok(found.as_slice() == bytes)
+}
+
+/// The first line that the file has, with its line feed; where none is whole among its first [`LINE_MAX`] bytes, these bytes.
+pub fn first_line<D: Disk>(alloc: Global, disk: &mut D) -> Result<Vec<u8>, ActsFault>
+    ensures same { IsSameFile D.Disk disk.old disk.new }
+    ensures line { IfOk result (λ found. IsTrue (D.Disk.is_clean disk.new) → (line more : List ℕ) → D.Disk.seen disk.old ≡ line ++ more → IsLine line → length line ≤ 8_192 → found.items ≡ line) }
+    ensures fault { IfErr result IsOfFile }
+{
+    let size = file_len(disk)?;
+    let mut head = bytes_at(alloc, disk, 0, size.min(LINE_MAX))?;
+    head.truncate(line_len(head.as_slice()));
+    Ok(head)
+}
+
+/// How many bytes the line has with which these begin; all of them, where there is none.
+fn line_len(bytes: &[u8]) -> usize
+    ensures { (line more : List ℕ) → bytes.now ≡ line ++ more → IsLine line → result ≡ length line }
+{
+    for (i, byte) in bytes.iter().enumerate() {
+        if *byte == b'\n' {
+            return i + 1;
+        }
+    }
+    bytes.len()
 }

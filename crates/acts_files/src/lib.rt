@@ -12,6 +12,7 @@ mod opening;
 mod torn;
 
 pub use acts_file::ActsFile;
+pub use beside::first_line;
 pub use fault::ActsFault;
 pub use few_lines::FewLines;
 pub use keeping::{append, cut_to};

@@ -10,7 +10,7 @@ ghost use Rattle.acts_files.specs.Faults.{IsNoMisfit};
 ghost use Rattle.acts_files.specs.Kept.{IsSameFile, LosesNoLine};
 ghost use Rattle.acts_files.specs.KeptActs.{NoHistory, HasPassed, IsCleanFile};
 ghost use Rattle.acts_files.specs.Torn.{IsLeftOf};
-ghost use Rattle.acts_files.specs.Opened.{PassesMore, EndsAt, HasWalked, KeepsLines, IsMeasured, IsPut, IsNotPut, IsOpened, IsNotOpenedBy, IsNotOpened, rest_of};
+ghost use Rattle.acts_files.specs.Opened.{PassesMore, EndsAt, HasWalked, KeepsLines, IsMeasured, IsPut, IsNotPut, IsOwn, IsOpened, IsNotOpenedBy, IsNotOpened, rest_of};
 
 use crate::acts_file::{AT_ONCE, ActsFile};
 use crate::beside::{bytes_at, file_len, has_there};
@@ -36,7 +36,7 @@ pub struct NotOpened<D> {
 /// has behind them is written over, where a torn write of the next lines leaves that: at most as many bytes as the lines of
 /// the next thousand acts have, each of them 0 or the one that stands there, and no whole line. Behind the lines of all acts
 /// it may have part of the line of the next act, which is cut. Then the lines that it lacks are added, so many at once.
-/// `Differs` and `Lacks` where it has anything else behind them: nothing of it was changed. `File`, `Store` and `Foreign`
+/// `Differs` and `Lacks` where it has anything else behind them, and there alone: nothing of it was changed. `File`, `Store` and `Foreign`
 /// where the file, or memory or the disk of the books, or their rows, did not suffice. However it ends, and whatever the
 /// books are, each whole line that the file had first stands in it.
 pub fn open_beside<S: Alter, D: Disk>(
@@ -48,6 +48,8 @@ pub fn open_beside<S: Alter, D: Disk>(
     ensures clean { IsClean S.Store books.new → IsClean S.Store books.old }
     ensures kept { IsClean S.Store books.new → (first : ℤ) (acts : List Act) → IsHistory first acts → HoldsBooks S.Store first acts books.old
         → HoldsBooks S.Store first acts books.new × IfOk result (IsOpened D.Disk begun acts disk) × IfErr result (IsNotOpened D.Disk begun acts disk) }
+    ensures own { IsClean S.Store books.new → (first : ℤ) (acts : List Act) → IsHistory first acts → HoldsBooks S.Store first acts books.old
+        → IfErr result (λ e. IsTrue (D.Disk.is_clean e.disk) → IsOwn D.Disk begun acts disk → IsNoMisfit e.fault) }
     ensures lines { IfOk result (KeepsLines D.Disk disk) }
     ensures unopened { IfErr result (λ e. LosesNoLine D.Disk disk e.disk) }
     ensures survives { Survives (state S.Store books.old.conn) (state S.Store books.new.conn) (NoHistory S.Store books.old) }
