@@ -10,7 +10,7 @@ use Rattle.store.specs.Connected.{Connected}
 use Rattle.store.specs.Books.{AreBooks, HoldsBooks}
 use Rattle.histories.specs.Newer.{act_line, newer_text}
 use Rattle.act_lines.specs.Reading.{IsPart}
-use Rattle.applies.specs.Going.{GoneOn, IsOfNone, Misfits, IsOfNoLine, StopsAtLine, IsDone, GoesOn, Leaves}
+use Rattle.applies.specs.Going.{GoneOn, IsOfNone, Misfits, IsOfNoLine, AreCommitted, StopsAtLine, IsDone, GoesOn, Leaves}
 use Rattle.applies.specs.Known.{counted}
 use Rattle.applies.specs.Lines.{GoesOnByNone, MisfitsThere, EndsAtLine, AreLinesDone, IsBehindEnded, AreBehindDone, LeavesLines}
 use Rattle.applies.specs.declared.applied.Applied.{Applied}
@@ -29,9 +29,10 @@ pub no_back : (xs ys : List Act) → xs ++ ys ≡ [] → ys ≡ []
 no_back [] ys e = e
 no_back (x ∷ xs) ys e = cc
 
-counted_lasts : {Is : Type 0} (lines : ℕ) (r : Result ℕ NotApplied) (newer : List Act) → OnOk r Is → OnOk (counted lines r) (newer ≢ [] → Is)
-counted_lasts lines (Ok all) newer is = λ some. is
-counted_lasts lines (Err fault) newer is = tt
+-- what is known at `Ok` is known of the counted, too
+counted_lasts : (Is : Type 0) (lines : ℕ) (r : Result ℕ NotApplied) (newer : List Act) → OnOk r Is → OnOk (counted lines r) (newer ≢ [] → Is)
+counted_lasts Is lines (Ok all) newer is = λ some. is
+counted_lasts Is lines (Err fault) newer is = tt
 
 module _ (first begun : ℤ) (acts : List Act) where
   -- ---- no line came
@@ -186,7 +187,7 @@ module _ (first begun : ℤ) (acts : List Act) where
     by_first text books (Err fault) d = first_result text d.behind d.newer d.is fault d.ended
 
     pub done_before : (text : List ℕ) (r : Result ℕ NotApplied) (books : Connected S) → AreLinesDone g first begun acts head text 0 r books → GoesOn g first begun acts text (counted 0 r) books
-    done_before text r books d = record { newer = d.newer; history = d.history; done = by_first text books r d; holds = d.holds; lasts = counted_lasts 0 r d.newer d.lasts }
+    done_before text r books d = record { newer = d.newer; history = d.history; done = by_first text books r d; holds = d.holds; lasts = counted_lasts (AreCommitted g first (d.newer ++ acts) books) 0 r d.newer d.lasts }
 
   leave_first : (text behind : List ℕ) (trees : Trees) (newer : List Act) → text ≡ newer_text begun newer acts ++ behind → (l : LeavesLines first begun acts text trees) → l.newer ≡ newer → Leaves first begun acts text trees
   leave_first text behind trees [] e l n = record {
