@@ -12,7 +12,7 @@ use Rattle.store.specs.Books.{HoldsBooks}
 use Rattle.histories.specs.Newer.{newer_text}
 use Rattle.act_lines.specs.Reading.{IsPart, IsLine}
 use Rattle.act_lines.proofs.Ends.{end_back}
-use Rattle.applies.specs.Going.{IsOfNoLine, OfText}
+use Rattle.applies.specs.Going.{IsOfNoLine, AreCommitted, OfText}
 use Rattle.applies.specs.Lines.{IsAt, Stands, MisfitsThere, IsLineAdded, LeavesLine, AreLinesDone, LeavesLines}
 use Rattle.applies.specs.declared.applied.NotApplied.{NotApplied}
 use Rattle.applies.specs.declared.applied.NotApplied.TheVariants.{Line}
@@ -29,6 +29,7 @@ module _ {S R : Type 0} (g : Ghosts S) (remaining : R → Option (List ℕ)) (le
     pub stands : IsAt begun (newer ++ acts) at
     pub count : at.lines ≡ lines + length newer
     pub read : Consumes left (remaining now) (newer_text begun newer acts)
+    pub lasts : AreCommitted g first (newer ++ acts) books
 
   -- and another line, which is not done yet
   pub record Comes (at : At) (now : R) (last : List ℕ) (books : Connected S) : Type 0 where
@@ -54,6 +55,7 @@ module _ {S R : Type 0} (g : Ghosts S) (remaining : R → Option (List ℕ)) (le
     stands = h.at;
     count = omega (arith, h.lines, c.count);
     read = subst (λ t. Consumes left (remaining now) (newer_text begun c.newer acts ++ t)) h.is c.read;
+    lasts = h.lasts;
   }
 
   pub next_read : (at : At) (now then : R) (next : List ℕ) (books : Connected S) → Came at now books → Consumes (remaining now) (remaining then) next → IsLine next → Comes at then next books
@@ -75,7 +77,7 @@ module _ {S R : Type 0} (g : Ghosts S) (remaining : R → Option (List ℕ)) (le
   ended at now then next books c read part end =
       told_at_end left (remaining then) (newer_text begun c.newer acts ++ next) (λ text. AreLinesDone g first begun acts line text lines (Ok at.lines) books)
       (Consumes-trans left (remaining now) (remaining then) (newer_text begun c.newer acts) next c.read read) (end_back left (remaining now) (remaining then) (newer_text begun c.newer acts) c.read end)
-      (record { newer = c.newer; history = c.history; behind = next; is = refl; ended = (part, c.some, c.count); holds = c.holds })
+      (record { newer = c.newer; history = c.history; behind = next; is = refl; ended = (part, c.some, c.count); holds = c.holds; lasts = c.lasts })
 
   pub fails_behind : (at : At) (now then : R) (next : List ℕ) (books : Connected S) → Came at now books → Consumes (remaining now) (remaining then) next → (fault : NotApplied)
       → IsOfNoLine fault ⊎ ((fault ≡ Line (at.lines + 1)) × IsPart next × (length next ≡ 8_192)) → OfText left (λ text. AreLinesDone g first begun acts line text lines (Err fault) books)
@@ -102,6 +104,7 @@ module _ {S R : Type 0} (g : Ghosts S) (remaining : R → Option (List ℕ)) (le
               )
         ];
         holds = c.holds;
+        lasts = tt;
       })
 
   pub fails_at : (at : At) (now : R) (last : List ℕ) (books later : Connected S) (c : Comes at now last books) (fault : NotApplied) → HoldsBooks g first (c.newer ++ acts) later
@@ -119,6 +122,7 @@ module _ {S R : Type 0} (g : Ghosts S) (remaining : R → Option (List ℕ)) (le
               inr (record { line = last; more = rest; parts = refl; piece = inl c.whole; misfits = subst (λ n. MisfitsThere first begun (c.newer ++ acts) n last fault) c.count misfit }, c.head)
         ];
         holds = holds;
+        lasts = tt;
       })
 
   pub leaves_at : (at : At) (now : R) (last : List ℕ) (books : Connected S) (c : Comes at now last books) (trees : Trees) → LeavesLine first begun (c.newer ++ acts) last trees

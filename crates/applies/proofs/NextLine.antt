@@ -1,9 +1,10 @@
 -- The line of the act that comes next, and what comes of the act.
-use Rattle.std.proofs.Common.{◌≡◌, ℕ, ◌+◌, ◌<◌, ◌^◌, false, List, Some, None, Ok, Err, inl, inr, refl, sym, ap, subst, ◌∙◌, arith, true≢false}
+use Rattle.std.proofs.Common.{◌≡◌, ℕ, ◌+◌, ◌<◌, ◌^◌, false, List, ◌∷◌, Some, None, Ok, Err, inl, inr, refl, sym, ap, subst, ◌∙◌, arith, true≢false}
 use Rattle.std.specs.Prelude.{◌⊎◌, ℤ}
 use Rattle.std.proofs.lemmas.Option.{same_Some, none-some}
 use Rattle.sqlite_trees.specs.declared.store.Store.{Ghosts}
 use Rattle.sqlite_trees.specs.Tree.{Trees}
+use Rattle.sqlite.specs.Held.{state}
 use Rattle.commands.specs.Spelling.{key_text, spelling}
 use Rattle.commands.specs.declared.key.Key.{Key}
 use Rattle.commands.specs.declared.command.Command.{Command}
@@ -13,7 +14,7 @@ use Rattle.machine.specs.Once.{Outcome, Accepted, Repeated, Refused, outcome, ap
 use Rattle.histories.specs.Text.{history_line}
 use Rattle.histories.specs.Newer.{act_line}
 use Rattle.store.specs.Connected.{Connected}
-use Rattle.store.specs.Books.{AreBooks}
+use Rattle.store.specs.Books.{AreBooks, LeavesOnly}
 use Rattle.replays.specs.Replaying.{IsReplayed}
 use Rattle.replays.specs.declared.fault.NotReplayed.{NotReplayed}
 use Rattle.replays.specs.declared.fault.NotReplayed.TheVariants as again
@@ -50,15 +51,16 @@ module _ (first begun : ℤ) (acts : List Act) (line : List ℕ) (at : At) (is :
     number_is = own.number ∙ ap (λ k. k + 1) is.done
 
     -- the act was done
-    pub added : {S : Type 0} (g : Ghosts S) (after : At) (books : Connected S) → IsReplayed g first acts (act_of next) next.number (Ok tt) books → after.done ≡ next.number → after.day ≡ next.day → after.lines ≡ next.line
+    pub added : {S : Type 0} (g : Ghosts S) (after : At) (books : Connected S) → IsReplayed g first acts (act_of next) next.number (Ok tt) books → LeavesOnly first (act_of next ∷ acts) (state g books.conn) → after.done ≡ next.number → after.day ≡ next.day → after.lines ≡ next.line
         → IsLineAdded g first begun acts line at after books
-    added g after books h done day lines = record {
+    added g after books h kept done day lines = record {
       act = act_of next;
       is = line_is;
       history = h.0;
       at = record { done = omega (arith, done, number_is); day = day ∙ own.day ∙ ap (day_after_command next.command) is.day };
       lines = lines ∙ own.place;
       holds = h.2;
+      lasts = record { is_open = h.1; leaves = kept };
     }
 
     -- it was not

@@ -1,6 +1,6 @@
 -- The text as a whole: the lines of acts that the books had, and those behind them.
 use Rattle.std.proofs.Common.{◌≡◌, ◌≢◌, ℕ, ◌+◌, ◌-◌, List, [], ◌∷◌, ◌++◌, append_assoc, append-nil, length, length-append, Result, Ok, Err, inl, inr, refl, sym, ap, subst, ◌∙◌, arith}
-use Rattle.std.specs.Prelude.{◌⊎◌, ℤ}
+use Rattle.std.specs.Prelude.{◌⊎◌, ℤ, OnOk}
 use Rattle.std.proofs.lemmas.List.Elements.{All-nil}
 use Rattle.sqlite_trees.specs.declared.store.Store.{Ghosts}
 use Rattle.sqlite_trees.specs.Tree.{Trees}
@@ -10,7 +10,7 @@ use Rattle.store.specs.Connected.{Connected}
 use Rattle.store.specs.Books.{AreBooks, HoldsBooks}
 use Rattle.histories.specs.Newer.{act_line, newer_text}
 use Rattle.act_lines.specs.Reading.{IsPart}
-use Rattle.applies.specs.Going.{GoneOn, IsOfNone, Misfits, IsOfNoLine, StopsAtLine, IsDone, GoesOn, Leaves}
+use Rattle.applies.specs.Going.{GoneOn, IsOfNone, Misfits, IsOfNoLine, AreCommitted, StopsAtLine, IsDone, GoesOn, Leaves}
 use Rattle.applies.specs.Known.{counted}
 use Rattle.applies.specs.Lines.{GoesOnByNone, MisfitsThere, EndsAtLine, AreLinesDone, IsBehindEnded, AreBehindDone, LeavesLines}
 use Rattle.applies.specs.declared.applied.Applied.{Applied}
@@ -28,6 +28,11 @@ no_front (x ∷ xs) ys e = cc
 pub no_back : (xs ys : List Act) → xs ++ ys ≡ [] → ys ≡ []
 no_back [] ys e = e
 no_back (x ∷ xs) ys e = cc
+
+-- what is known at `Ok` is known of the counted, too
+counted_lasts : (Is : Type 0) (lines : ℕ) (r : Result ℕ NotApplied) (newer : List Act) → OnOk r Is → OnOk (counted lines r) (newer ≢ [] → Is)
+counted_lasts Is lines (Ok all) newer is = λ some. is
+counted_lasts Is lines (Err fault) newer is = tt
 
 module _ (first begun : ℤ) (acts : List Act) where
   -- ---- no line came
@@ -154,7 +159,7 @@ module _ (first begun : ℤ) (acts : List Act) where
       by_result rest behind newer e (Err fault) h = stops_on newer (λ _ k. some k) (head ++ rest) behind fault (text_is rest behind newer e) h
 
       pub done_within : (rest : List ℕ) (r : Result Applied NotApplied) (books : Connected S) → AreBehindDone g first begun acts rest (length known) r books → GoesOn g first begun acts (head ++ rest) r books
-      done_within rest r books d = record { newer = d.newer; history = d.history; done = by_result rest d.behind d.newer d.is r d.ended; holds = d.holds }
+      done_within rest r books d = record { newer = d.newer; history = d.history; done = by_result rest d.behind d.newer d.is r d.ended; holds = d.holds; lasts = d.lasts }
 
       pub leaves_within : (rest : List ℕ) (trees : Trees) → LeavesLines first begun acts rest trees → Leaves first begun acts (head ++ rest) trees
       leaves_within rest trees l = record {
@@ -182,7 +187,7 @@ module _ (first begun : ℤ) (acts : List Act) where
     by_first text books (Err fault) d = first_result text d.behind d.newer d.is fault d.ended
 
     pub done_before : (text : List ℕ) (r : Result ℕ NotApplied) (books : Connected S) → AreLinesDone g first begun acts head text 0 r books → GoesOn g first begun acts text (counted 0 r) books
-    done_before text r books d = record { newer = d.newer; history = d.history; done = by_first text books r d; holds = d.holds }
+    done_before text r books d = record { newer = d.newer; history = d.history; done = by_first text books r d; holds = d.holds; lasts = counted_lasts (AreCommitted g first (d.newer ++ acts) books) 0 r d.newer d.lasts }
 
   leave_first : (text behind : List ℕ) (trees : Trees) (newer : List Act) → text ≡ newer_text begun newer acts ++ behind → (l : LeavesLines first begun acts text trees) → l.newer ≡ newer → Leaves first begun acts text trees
   leave_first text behind trees [] e l n = record {
@@ -215,9 +220,9 @@ behind_of g first begun acts head text lines (Ok all) books d =
     let count = d.ended.2 in
     let same : all - lines ≡ length d.newer = omega (arith, count) in
     let make : ℕ → Applied = λ n. record { done = n; known = lines; beyond = 0 } in
-    record { newer = d.newer; history = d.history; behind = d.behind; is = d.is; ended = (d.ended.0, ap make same); holds = d.holds }
+    record { newer = d.newer; history = d.history; behind = d.behind; is = d.is; ended = (d.ended.0, ap make same); holds = d.holds; lasts = λ some. d.lasts }
 behind_of g first begun acts head text lines (Err fault) books d =
-    record { newer = d.newer; history = d.history; behind = d.behind; is = d.is; ended = elim d.ended [ inl own ↦ inl own | inr end ↦ inr end.0 ]; holds = d.holds }
+    record { newer = d.newer; history = d.history; behind = d.behind; is = d.is; ended = elim d.ended [ inl own ↦ inl own | inr end ↦ inr end.0 ]; holds = d.holds; lasts = tt }
 
 -- the first line behind so many is too long
 pub long_behind : {S : Type 0} (g : Ghosts S) (first begun : ℤ) (acts : List Act) (books : Connected S) (lines : ℕ) (line rest : List ℕ) (fault : NotApplied) → IsHistory first acts → HoldsBooks g first acts books
@@ -239,6 +244,7 @@ long_behind g first begun acts books lines line rest fault history holds why = r
         })
   ];
   holds = holds;
+  lasts = tt;
 }
 
 pub long_first : (first begun : ℤ) (acts : List Act) (line rest : List ℕ) → IsPart line → length line ≡ 8_192 → StopsAtLine first begun acts (line ++ rest) [] (Line 1)

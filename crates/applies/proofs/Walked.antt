@@ -51,10 +51,11 @@ module _ {S R : Type 0} (g : Ghosts S) (remaining : R → Option (List ℕ)) (le
           record { done = refl; known = b.count; beyond = let n = b.beyond in omega (arith, n, done) },
         );
         holds = holds;
+        lasts = λ some. absurd (some refl);
       })
 
   goes_wrong : (text : List ℕ) (fault : NotApplied) → StopsAtLine first begun acts text [] fault → Goes (Err fault) text
-  goes_wrong text fault stops = record { newer = []; history = history; done = stops; holds = holds }
+  goes_wrong text fault stops = record { newer = []; history = history; done = stops; holds = holds; lasts = tt }
 
   pub own_fault : (fault : NotApplied) → IsOfNoLine fault → OfText left (Goes (Err fault))
   own_fault fault own = told_any left (Goes (Err fault)) (λ text. goes_wrong text fault (stops_own first begun acts text fault own))

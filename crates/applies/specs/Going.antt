@@ -1,7 +1,8 @@
 -- Books that go on by the lines of a text.
-use Rattle.std.specs.Prelude.{◌≡◌, ◌≢◌, ◌⊎◌, ◌+◌, ◌<◌, ℕ, ℤ, List, [], ◌∷◌, ◌++◌, length, Option, Some, Result, Ok, Err, IfSome}
+use Rattle.std.specs.Prelude.{◌≡◌, ◌≢◌, ◌⊎◌, ◌+◌, ◌<◌, ℕ, ℤ, List, [], ◌∷◌, ◌++◌, length, Option, Some, Result, Ok, Err, IfSome, OnOk}
 use Rattle.sqlite_trees.specs.declared.store.Store.{Ghosts}
 use Rattle.sqlite_trees.specs.Tree.{Trees}
+use Rattle.sqlite.specs.Held.{state}
 use Rattle.commands.specs.declared.refusal.Refusal.{Refusal}
 use Rattle.machine.specs.Acts.{Act, next_number}
 use Rattle.machine.specs.Once.{IsHistory, IsSoundRequest, outcome}
@@ -9,9 +10,9 @@ use Rattle.histories.specs.Newer.{act_line, newer_text}
 use Rattle.act_lines.specs.Reading.{IsPart, IsNumbered, IsPiece}
 use Rattle.act_lines.specs.declared.reading.ReadFault.{ReadFault}
 use Rattle.act_lines.specs.declared.reading.ReadFault.TheVariants as read
-use Rattle.replays.specs.Replaying.{cause}
+use Rattle.replays.specs.Replaying.{cause, IsOpen}
 use Rattle.store.specs.Connected.{Connected}
-use Rattle.store.specs.Books.{AreBooks, HoldsBooks}
+use Rattle.store.specs.Books.{AreBooks, HoldsBooks, LeavesOnly}
 use Rattle.applies.specs.declared.applied.Applied.{Applied}
 use Rattle.applies.specs.declared.applied.NotApplied.{NotApplied}
 use Rattle.applies.specs.declared.applied.NotApplied.TheVariants.{Differs, Lacks, Line, Refused, Input, Store, Foreign}
@@ -112,12 +113,19 @@ abbrev pub IsDone : (first begun : ℤ) → (acts : List Act) → (text : List �
 IsDone first begun acts text newer (Ok told) = (gone : GoneOn begun acts text newer) × IsCounted begun acts text newer gone told
 IsDone first begun acts text newer (Err fault) = StopsAtLine first begun acts text newer fault
 
+-- the acts are committed for good: the connection is open, and a stop leaves the books of all of them
+pub record AreCommitted {S : Type 0} (g : Ghosts S) (first : ℤ) (acts : List Act) (books : Connected S) : Type 0 where
+  pub is_open : IsOpen g books
+  pub leaves : LeavesOnly first acts (state g books.conn)
+
 -- over the books of the acts the newer acts were done, which go on with their history
 pub record GoesOn {S : Type 0} (g : Ghosts S) (first begun : ℤ) (acts : List Act) (text : List ℕ) (result : Result Applied NotApplied) (books : Connected S) : Type 0 where
   pub newer : List Act
   pub history : IsHistory first (newer ++ acts)
   pub done : IsDone first begun acts text newer result
   pub holds : HoldsBooks g first (newer ++ acts) books
+  -- so what is told as done is never taken back
+  pub lasts : OnOk result (newer ≢ [] → AreCommitted g first (newer ++ acts) books)
 
 -- the tables are those of the acts and of newer ones, whose lines the text begins with
 pub record Leaves (first begun : ℤ) (acts : List Act) (text : List ℕ) (trees : Trees) : Type 0 where

@@ -1,5 +1,5 @@
 -- The lines of acts that come behind those of the books.
-use Rattle.std.specs.Prelude.{◌≡◌, ◌≢◌, ◌⊎◌, ◌+◌, ◌<◌, ℕ, ℤ, List, [], ◌∷◌, ◌++◌, length, Option, Some, Result, Ok, Err}
+use Rattle.std.specs.Prelude.{◌≡◌, ◌≢◌, ◌⊎◌, ◌+◌, ◌<◌, ℕ, ℤ, List, [], ◌∷◌, ◌++◌, length, Option, Some, Result, Ok, Err, OnOk}
 use Rattle.std.specs.Io.KnownBytes.{Consumes}
 use Rattle.sqlite_trees.specs.declared.store.Store.{Ghosts}
 use Rattle.sqlite_trees.specs.Tree.{Trees}
@@ -16,7 +16,7 @@ use Rattle.replays.specs.declared.fault.NotReplayed.{NotReplayed}
 use Rattle.replays.specs.declared.fault.NotReplayed.TheVariants as again
 use Rattle.store.specs.Connected.{Connected}
 use Rattle.store.specs.Books.{AreBooks, HoldsBooks}
-use Rattle.applies.specs.Going.{IsOfNoLine}
+use Rattle.applies.specs.Going.{IsOfNoLine, AreCommitted}
 use Rattle.applies.specs.declared.applied.Applied.{Applied}
 use Rattle.applies.specs.declared.applied.NotApplied.{NotApplied}
 use Rattle.applies.specs.declared.applied.NotApplied.TheVariants.{Differs, Lacks, Line, Refused, Input, Store, Foreign}
@@ -112,6 +112,7 @@ pub record IsLineAdded {S : Type 0} (g : Ghosts S) (first begun : ℤ) (acts : L
   pub at : IsAt begun (act ∷ acts) after
   pub lines : after.lines ≡ before.lines + 1
   pub holds : HoldsBooks g first (act ∷ acts) books
+  pub lasts : AreCommitted g first (act ∷ acts) books
 
 -- what comes of the line
 abbrev pub IsLineDone : {S : Type 0} → Ghosts S → (first begun : ℤ) → (acts : List Act) → (line : List ℕ) → (before after : At) → Result (Unit {0}) NotApplied → Connected S → Type 0
@@ -146,6 +147,7 @@ pub record AreLinesDone {S : Type 0} (g : Ghosts S) (first begun : ℤ) (acts : 
   pub is : text ≡ newer_text begun newer acts ++ behind
   pub ended : IsTextEnded first begun acts newer head lines behind result
   pub holds : HoldsBooks g first (newer ++ acts) books
+  pub lasts : OnOk result (AreCommitted g first (newer ++ acts) books)
 
 -- how a text ends behind so many known lines: it has the lines of the newer acts, or one of its lines is not done
 abbrev pub IsBehindEnded : (first begun : ℤ) → (acts newer : List Act) → (lines : ℕ) → (behind : List ℕ) → Result Applied NotApplied → Type 0
@@ -160,6 +162,7 @@ pub record AreBehindDone {S : Type 0} (g : Ghosts S) (first begun : ℤ) (acts :
   pub is : text ≡ newer_text begun newer acts ++ behind
   pub ended : IsBehindEnded first begun acts newer lines behind result
   pub holds : HoldsBooks g first (newer ++ acts) books
+  pub lasts : OnOk result (newer ≢ [] → AreCommitted g first (newer ++ acts) books)
 
 -- a stop leaves the books of the acts and of those of the first lines
 pub record LeavesLines (first begun : ℤ) (acts : List Act) (text : List ℕ) (trees : Trees) : Type 0 where

@@ -58,7 +58,8 @@ fn apply_read<S: Alter, R: BufRead + Drop>(
 /// act has to be accepted there. The first line that does not fit ends it: all before it are done, and so is whatever a stop
 /// leaves. A last line without its line feed is passed over. No memory grows with the text. Lines of a history that goes on
 /// with the acts of the books all fit, from whatever line on that is not behind the first new act: they end at their last one,
-/// or for want of memory, the disk or the input, or where the rows of the books are out of order.
+/// or for want of memory, the disk or the input, or where the rows of the books are out of order. Where it ends well and acts
+/// were done, the connection is open and a stop leaves all of them.
 pub fn apply_text<S: Alter, R: BufRead + Drop>(
     alloc: Global,
     books: &mut Books<S>,

@@ -1,6 +1,6 @@
-use Rattle.std.proofs.Common.{Ok, Err, ap, sym, subst, ◌∙◌}
+use Rattle.std.proofs.Common.{[], Ok, Err, refl, ap, sym, subst, ◌∙◌}
 use Rattle.applies.specs.Lines.{AreLinesDone, AreBehindDone}
-use Rattle.applies.proofs.Texts.{told_on, told_weaker}
+use Rattle.applies.proofs.Texts.{told_on, told_at_end, told_weaker}
 use Rattle.applies.proofs.Passed.{behind_of, long_behind}
 use Rattle.applies.proofs.known.go_within.Goals as goal
 
@@ -14,6 +14,14 @@ returns-in-Ok-true-clause-done g c clean first begun acts history holds at =
     told_weaker left (λ text. AreLinesDone g.S.Store first begun acts line text c.args.at.lines result books) (λ text. AreBehindDone g.S.Store first begun acts text c.args.at.lines c.counted.result books)
     (c.do_lines-lines.ensures.done clean left first begun acts (record { history = history; holds = holds; stands = at; whole = whole; read = c.next_line.ensures.bytes }))
     (λ text d. subst (λ r. AreBehindDone g.S.Store first begun acts text c.args.at.lines r books) (sym c.counted.ensures) (behind_of g.S.Store first begun acts line text c.args.at.lines result books d))
+
+pub returns-in-Ok-false-clause-done : goal.returns-in-Ok-false-clause-done
+returns-in-Ok-false-clause-done g c clean first begun acts history holds at =
+    let line = c.next_line.new.line.items in
+    let part = c.next_line.ensures.part (c.in-Ok-false.is ∙ ap Ok c.in-Ok-false.field-0-test) in
+    told_at_end (g.R.Read.remaining c.args.reader) (g.R.Read.remaining c.next_line.new.reader) line
+    (λ text. AreBehindDone g.S.Store first begun acts text c.args.at.lines (Ok (record { done = 0; known = c.args.at.lines; beyond = 0 })) c.args.books.now) c.next_line.ensures.bytes part.1
+    (record { newer = []; history = history; behind = line; is = refl; ended = (part.0, refl); holds = holds; lasts = λ some. absurd (some refl) })
 
 pub returns-in-Err-clause-done : goal.returns-in-Err-clause-done
 returns-in-Err-clause-done g c clean first begun acts history holds at =

@@ -6,7 +6,7 @@ use Rattle.applies.proofs.next.do_next.Goals as goal
 pub returns-in-Ok-clause-done : goal.returns-in-Ok-clause-done
 returns-in-Ok-clause-done g c clean first begun acts line history holds at own =
     added first begun acts line c.args.at.now at c.args.next.now own g.S.Store (record { done = c.args.next.now.number; day = c.args.next.now.day; lines = c.args.next.now.line }) c.act_again.new.books
-    (c.in-Ok.ensures.replayed clean first acts history holds) refl refl refl
+    (c.in-Ok.ensures.replayed clean first acts history holds) (c.in-Ok.ensures.kept clean first acts history holds) refl refl refl
 
 pub returns-in-Ok-clause-survives : goal.returns-in-Ok-clause-survives
 returns-in-Ok-clause-survives g c =

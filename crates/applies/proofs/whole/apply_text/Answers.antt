@@ -39,6 +39,7 @@ returns-in_err-place-clause-applied g c clean first acts history holds =
               history = history;
               done = subst (λ f. StopsAtLine first first acts (line ++ rest) [] f) (sym long.0) (long_first first first acts line rest long.1 long.2);
               holds = holds;
+              lasts = tt;
             },
           ))
     ]))
