@@ -1,6 +1,6 @@
 //! The bytes of an answer.
 
-ghost use Rattle.std.specs.Prelude.{◌≡◌, true, false, codes};
+ghost use Rattle.std.specs.Prelude.{◌≡◌, ◌↔◌, true, false, codes, IsTrue};
 ghost use Rattle.house.specs.Answers.{status_of};
 ghost use Rattle.house.specs.Asking.{fault_shown};
 ghost use Rattle.house.specs.House.{bytes_of, IsLongIfOk};
@@ -34,6 +34,13 @@ impl Answered {
             Answered::Short(block) => block.as_bytes(),
             Answered::Long(bytes) => bytes.as_slice(),
         }
+    }
+
+    /// Whether its status is 200.
+    pub(crate) fn is_ok(&self) -> bool
+        ensures { IsTrue result ↔ (status_of (bytes_of self.now) ≡ codes "HTTP/1.1 200") }
+    {
+        self.as_bytes().starts_with(OK_STATUS)
     }
 
     /// Whether it may tell of an act that is new: it is written in place, with status 200.

@@ -1,10 +1,11 @@
 //! One request from a reader, its answer to a writer, and its line to a log.
 
-ghost use Rattle.std.specs.Prelude.{◌≡◌, ◌≢◌, ℕ, ℤ, List, Result, Ok, Err, OnErr, IfErr, IsTrue};
+ghost use Rattle.std.specs.Prelude.{◌≡◌, ◌≢◌, ◌↔◌, ℕ, ℤ, List, Result, Ok, Err, false, codes, OnErr, IfErr, IsTrue};
 ghost use Rattle.machine.specs.Acts.{Act};
 ghost use Rattle.machine.specs.Once.{IsHistory};
 ghost use Rattle.texts.specs.Writing.{Writes};
-ghost use Rattle.store.specs.Books.{IsClean, HoldsBooks};
+ghost use Rattle.store.specs.Books.{IsClean, HoldsBooks, AreAsBefore};
+ghost use Rattle.house.specs.Answers.{status_of};
 ghost use Rattle.house.specs.House.{books_of};
 ghost use Rattle.house.specs.Keeping.{KeepsOn, IsKeptIfTold};
 ghost use Rattle.house.specs.Serving.{IsServed, IsServedAnyhow, IsServedAndLogged, IsLogged};
@@ -21,6 +22,8 @@ use wire::serving::{read_whole, write_bytes};
 /// How a request was served.
 #[derive(Clone, Copy)]
 pub struct Served {
+    /// Whether the status of the answer is 200. Where it is not, the books are as they were, whatever the writer took.
+    pub is_ok: bool,
     /// Whether it was answered: `Read` where the reader failed, `Write` where the writer did, or where what was done is not
     /// kept.
     pub answered: Result<(), ServeFault>,
@@ -68,7 +71,8 @@ impl<S: Alter> House<S> {
             → IsServedAndLogged S.Store first acts (R.remaining reader.old) (R.remaining reader.new) (books_of self.old) (books_of self.new) (Writes result.answered (W.contents writer.old) (W.contents writer.new)) result.logged (L.contents log.old) (L.contents log.new) }
         ensures as_before { IsClean S.Store (books_of self.new) → result.answered ≢ Err ServeFault.Read
             → (s : IsServedAnyhow S.Store (R.remaining reader.old) (R.remaining reader.new) (books_of self.old) (books_of self.new) (Writes result.answered (W.contents writer.old) (W.contents writer.new)))
-            × IsLogged result.logged (L.contents log.old) (L.contents log.new) s.text s.bytes }
+            × IsLogged result.logged (L.contents log.old) (L.contents log.new) s.text s.bytes × (IsTrue result.is_ok ↔ (status_of s.bytes ≡ codes "HTTP/1.1 200")) }
+        ensures unchanged { IsClean S.Store (books_of self.new) → result.is_ok ≡ false → AreAsBefore S.Store (books_of self.old) (books_of self.new) }
         ensures unread { result.answered ≡ Err ServeFault.Read → (books_of self.new ≡ books_of self.old) × (writer.new ≡ writer.old) × (log.new ≡ log.old) × (result.logged ≡ Ok tt) }
     {
         self.serve_one_kept(reader, writer, log, &mut NoKeeper)
@@ -92,7 +96,8 @@ impl<S: Alter> House<S> {
             × KeepsOn K.keeps keeper.old keeper.new acts w.0.steps.after result.kept }
         ensures as_before { IsClean S.Store (books_of self.new) → result.answered ≢ Err ServeFault.Read
             → (s : IsServedAnyhow S.Store (R.remaining reader.old) (R.remaining reader.new) (books_of self.old) (books_of self.new) (Writes result.answered (W.contents writer.old) (W.contents writer.new)))
-            × IsLogged result.logged (L.contents log.old) (L.contents log.new) s.text s.bytes }
+            × IsLogged result.logged (L.contents log.old) (L.contents log.new) s.text s.bytes × (IsTrue result.is_ok ↔ (status_of s.bytes ≡ codes "HTTP/1.1 200")) }
+        ensures unchanged { IsClean S.Store (books_of self.new) → result.is_ok ≡ false → AreAsBefore S.Store (books_of self.old) (books_of self.new) }
         ensures unread { result.answered ≡ Err ServeFault.Read → (books_of self.new ≡ books_of self.old) × (writer.new ≡ writer.old) × (log.new ≡ log.old) × (keeper.new ≡ keeper.old) × (result.logged ≡ Ok tt) × (result.kept ≡ Ok tt) }
         ensures kept { IsClean S.Store (books_of self.new)
             → (first begun : ℤ) (acts : List Act) → IsHistory first acts → HoldsBooks S.Store first acts (books_of self.old) → K.keeps keeper.old begun acts
@@ -105,16 +110,19 @@ impl<S: Alter> House<S> {
         match read_whole(self.alloc, &mut self.routes, reader) {
             Ok(heard) => {
                 let answer = self.answer_reading(&heard.reading);
+                let is_ok = answer.is_ok();
                 let kept = self.keep(&answer, keeper);
                 let answered = write_kept(writer, answer.as_bytes(), kept);
                 let logged = write_log_line(heard.text.as_slice(), answer.as_bytes(), log);
                 Served {
+                    is_ok,
                     answered,
                     logged,
                     kept,
                 }
             }
             Err(fault) => Served {
+                is_ok: false,
                 answered: Err(fault),
                 logged: Ok(()),
                 kept: Ok(()),

@@ -180,6 +180,7 @@ fn end_answer<C: Clock>(reader: &mut Timed<'_, C>, served: Served) -> Result<(),
         answered,
         logged,
         kept,
+        ..
     } = served;
     if let Ok(()) = answered {
         read_to_the_end(reader);

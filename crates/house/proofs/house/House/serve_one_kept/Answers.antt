@@ -1,4 +1,4 @@
-use Rattle.std.proofs.Common.{List, refl, inr}
+use Rattle.std.proofs.Common.{List, refl, inr, sym, ◌∙◌, true≢false}
 use Rattle.machine.specs.Acts.{Act}
 use Rattle.machine.specs.Once.{IsHistory}
 use Rattle.store.specs.Books.{HoldsBooks}
@@ -56,7 +56,14 @@ returns-in-Ok-clause-as_before g c clean written =
       },
       logs c.write_log_line-logged.result _ _ r.text c.in-Ok.heard.text.items r.lost _ _ bytes c.in-Ok.heard.reading r.parts c.as_slice.ensures.value c.as_bytes-in-Ok.ensures
           c.answer_reading-answer.ensures.memory r.kept c.write_log_line-logged.ensures,
+      c.is_ok-is_ok.ensures,
     )
+
+pub returns-in-Ok-clause-unchanged : goal.returns-in-Ok-clause-unchanged
+returns-in-Ok-clause-unchanged g c clean other =
+    let answer = c.answer_reading-answer in
+    unanswered_later g.S.Store (books_of c.args.self.now) (books_of answer.new.self) (books_of c.keep-kept.new.self) (bytes_of answer.result) (answer.ensures.as_before (c.keep-kept.ensures.clean clean)) (c.keep-kept.ensures.as_before clean)
+    (λ is. true≢false (sym (c.is_ok-is_ok.ensures.1 is) ∙ other))
 
 pub returns-in-Ok-clause-kept : goal.returns-in-Ok-clause-kept
 returns-in-Ok-clause-kept g c clean first begun acts history holds keeps =
