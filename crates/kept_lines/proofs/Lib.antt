@@ -1,3 +1,4 @@
+mod OwnDays
 mod Opened
 mod Kept
 mod Served

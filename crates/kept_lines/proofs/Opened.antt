@@ -1,6 +1,6 @@
 -- A file that is opened beside the books, whose acts began on a day that was found.
 use Rattle.std.proofs.Common.{List, refl, inl, inr}
-use Rattle.std.specs.Prelude.{ℤ, Result, Ok, Err, OnOk}
+use Rattle.std.specs.Prelude.{ℤ, IsTrue, Result, Ok, Err, OnOk, IfErr}
 use Rattle.sqlite_disk.specs.declared.Disk.{Ghosts}
 use Rattle.sqlite_trees.specs.declared.store.Store.{Ghosts as StoreGhosts}
 use Rattle.sqlite.specs.Held.{state}
@@ -13,17 +13,23 @@ use Rattle.applies.specs.Begun.{BegunOn}
 use Rattle.acts_files.specs.KeptActs.{NoHistory}
 use Rattle.acts_files.specs.Faults.{IsNoMisfit}
 use Rattle.acts_files.specs.Kept.{IsSameFile}
-use Rattle.acts_files.specs.Opened.{IsOpened, IsNotOpened}
+use Rattle.acts_files.specs.Opened.{IsOwn, IsOpened, IsNotOpened}
 use Rattle.acts_files.specs.declared.acts_file.ActsFile.{ActsFile}
 use Rattle.acts_files.specs.declared.fault.ActsFault.{ActsFault}
 use Rattle.acts_files.specs.declared.opening.NotOpened.{NotOpened}
 use Rattle.acts_files.proofs.Opens.{not_told, opened_from, not_opened_from}
-use Rattle.kept_lines.specs.Beside.{IsOpenedBeside, IsNotOpenedBeside}
+use Rattle.kept_lines.specs.Beside.{FitsFile, IsOpenedBeside, IsNotOpenedBeside}
+use Rattle.kept_lines.proofs.OwnDays.{own_taken}
 
 -- it holds of whatever result
 pub whatever : {X E : Type 0} {P : Type 0} (r : Result X E) → P → OnOk r P
 whatever (Ok x) p = p
 whatever (Err e) p = tt
+
+-- where both hold of an error, what follows from them does
+pub on_err_both : {X E : Type 0} {P Q R : E → Type 0} (r : Result X E) → IfErr r P → IfErr r Q → ((e : E) → P e → Q e → R e) → IfErr r R
+on_err_both (Ok x) p q f = tt
+on_err_both (Err e) p q f = f e p q
 
 module _ {D : Type 0} (g : Ghosts D) (first : ℤ) (acts : List Act) (disk read : D) (same : IsSameFile g disk read) where
   pub opened_beside : (begun : ℤ) → BegunOn first acts begun → (file : ActsFile D) → IsOpened g begun acts read file → IsOpenedBeside g first acts disk file
@@ -33,11 +39,13 @@ module _ {D : Type 0} (g : Ghosts D) (first : ℤ) (acts : List Act) (disk read 
     opened = opened_from g begun acts disk read same file is;
   }
 
-  pub not_opened_beside : (begun : ℤ) → BegunOn first acts begun → (e : NotOpened D) → IsNotOpened g begun acts read e → IsNotOpenedBeside g first acts disk e
-  not_opened_beside begun day e is = record {
+  pub not_opened_beside : (begun : ℤ) → BegunOn first acts begun → (IsTrue (g.is_clean read) → FitsFile g first acts disk begun) → (e : NotOpened D) → IsNotOpened g begun acts read e
+      → (IsTrue (g.is_clean e.disk) → IsOwn g begun acts read → IsNoMisfit e.fault) → IsNotOpenedBeside g first acts disk e
+  not_opened_beside begun day fits e is own = record {
     begun = begun;
     day = day;
     not_opened = not_opened_from g begun acts disk read same e is;
+    own = own_taken g first acts disk read e.disk same begun e.fault fits is own;
   }
 
 -- the day was not found
@@ -46,6 +54,7 @@ day_not_found g first acts disk new fault history none = record {
   begun = first;
   day = record { history = history; tables = refl };
   not_opened = not_told g first acts disk new fault fault none;
+  own = λ clean o. none;
 }
 
 -- what a stop leaves is the same after a call that commits nothing

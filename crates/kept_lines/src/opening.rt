@@ -1,6 +1,6 @@
 //! The file of the acts, opened beside the books.
 
-ghost use Rattle.std.specs.Prelude.{◌≡◌, ℤ, List, IfOk, IfErr, Err};
+ghost use Rattle.std.specs.Prelude.{◌≡◌, ℤ, List, IsTrue, IfOk, IfErr, Err};
 ghost use Rattle.sqlite.specs.Held.{state};
 ghost use Rattle.sqlite.specs.State.{Survives};
 ghost use Rattle.machine.specs.Acts.{Act};
@@ -10,12 +10,12 @@ ghost use Rattle.acts_files.specs.KeptActs.{NoHistory};
 ghost use Rattle.acts_files.specs.Faults.{IsNoMisfit};
 ghost use Rattle.acts_files.specs.Kept.{IsSameFile, LosesNoLine};
 ghost use Rattle.acts_files.specs.Opened.{KeepsLines};
-ghost use Rattle.applies.specs.Begun.{BegunOn};
-ghost use Rattle.kept_lines.specs.Beside.{IsOpenedBeside, IsNotOpenedBeside};
+ghost use Rattle.applies.specs.Begun.{BegunOn, FitsLine};
+ghost use Rattle.kept_lines.specs.Beside.{FitsFile, IsOpenedBeside, IsNotOpenedBeside};
 ghost use Rattle.kept_lines.specs.Faults.{fault_of_acts as fault_of_acts_lem};
 
 use crate::fault::fault_of_acts;
-use acts_files::{ActsFault, ActsFile, NotOpened, open_beside};
+use acts_files::{ActsFault, ActsFile, NotOpened, first_line, open_beside};
 use applies::{NotApplied, find_begun};
 use label::Day;
 use line_books::AfterWork;
@@ -24,11 +24,9 @@ use sqlite_disk::Disk;
 use std::alloc::Global;
 use store::Books;
 
-/// How many of the first bytes of the file are looked at for the day of its first line: more than a number and a day take.
-const HEAD: usize = 64;
-
 /// Holds the file against the books, as `open_beside` does, from the day on which their acts began. Where the tables do not
-/// tell that day, it is that of the first line, if it may be. However it ends, and whatever the books are, each whole line
+/// tell that day, it is that of the first line, if it may be: so the file of these acts is not refused, whatever day they began
+/// on, if it has a whole line or is empty. However it ends, and whatever the books are, each whole line
 /// that the file had first stands in it.
 pub fn open_acts<S: Alter, D: Disk>(
     alloc: Global,
@@ -59,41 +57,30 @@ fn begun_beside<S: Alter, D: Disk>(
     ensures same { IsSameFile D.Disk disk.old disk.new }
     ensures begun { IsClean S.Store books.new → (first : ℤ) (acts : List Act) → IsHistory first acts → HoldsBooks S.Store first acts books.old
         → HoldsBooks S.Store first acts books.new × IfOk result (BegunOn first acts) }
+    ensures fits { IsClean S.Store books.new → (first : ℤ) (acts : List Act) → IsHistory first acts → HoldsBooks S.Store first acts books.old
+        → IfOk result (λ day. IsTrue (D.Disk.is_clean disk.new) → FitsFile D.Disk first acts disk.old day) }
     ensures fault { IfErr result IsNoMisfit }
     ensures survives { Survives (state S.Store books.old.conn) (state S.Store books.new.conn) (NoHistory S.Store books.old) }
 {
-    let head = head_of(alloc, disk)?;
-    begun_by(alloc, books, head.as_slice())
+    let line = first_line(alloc, disk)?;
+    begun_by(alloc, books, line.as_slice())
 }
 
-/// The day on which the acts of the books began, whose file begins so.
-fn begun_by<S: Alter>(alloc: Global, books: &mut Books<S>, head: &[u8]) -> Result<Day, ActsFault>
+/// The day on which the acts of the books began, whose file begins with this line.
+fn begun_by<S: Alter>(alloc: Global, books: &mut Books<S>, line: &[u8]) -> Result<Day, ActsFault>
     ensures clean { IsClean S.Store books.new → IsClean S.Store books.old }
     ensures begun { IsClean S.Store books.new → (first : ℤ) (acts : List Act) → IsHistory first acts → HoldsBooks S.Store first acts books.old
         → HoldsBooks S.Store first acts books.new × IfOk result (BegunOn first acts) }
+    ensures fits { IsClean S.Store books.new → (first : ℤ) (acts : List Act) → IsHistory first acts → HoldsBooks S.Store first acts books.old
+        → IfOk result (FitsLine first acts line.now) }
     ensures fault { IfErr result IsNoMisfit }
     ensures survives { Survives (state S.Store books.old.conn) (state S.Store books.new.conn) (NoHistory S.Store books.old) }
 {
-    match find_begun(alloc, books, head) {
+    match find_begun(alloc, books, line) {
         Ok(day) => Ok(day),
         Err(NotApplied::Foreign) => Err(ActsFault::Foreign),
         Err(_) => Err(ActsFault::Store),
     }
-}
-
-/// The first bytes of the file.
-fn head_of<D: Disk>(alloc: Global, disk: &mut D) -> Result<Vec<u8>, ActsFault>
-    ensures same { IsSameFile D.Disk disk.old disk.new }
-    ensures fault { IfErr result IsNoMisfit }
-{
-    if !disk.may_be_used() {
-        return Err(ActsFault::File);
-    }
-    let len = disk.len()?;
-    let mut head = Vec::new(alloc);
-    head.resize(len.min(HEAD), 0)?;
-    disk.read_at(0, head.as_mut_slice())?;
-    Ok(head)
 }
 
 /// The books closed, where the file was not opened, and how the line ends.

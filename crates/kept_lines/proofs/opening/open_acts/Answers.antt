@@ -1,7 +1,7 @@
 use Rattle.std.proofs.lemmas.Result.{IfOk-weaker, IfErr-weaker}
 use Rattle.acts_files.proofs.Same.{keeps_from, loses_from, loses_none}
 use Rattle.acts_files.proofs.Survive.{none_later}
-use Rattle.kept_lines.proofs.Opened.{day_not_found, not_opened_beside, opened_beside}
+use Rattle.kept_lines.proofs.Opened.{day_not_found, on_err_both, not_opened_beside, opened_beside}
 use Rattle.kept_lines.proofs.opening.open_acts.Goals as goal
 
 pub returns-in-Ok-clause-kept : goal.returns-in-Ok-clause-kept
@@ -12,7 +12,8 @@ returns-in-Ok-clause-kept g c clean first acts history holds =
     let kept = c.open_beside.ensures.kept clean first acts history day.0 in (
       kept.0,
       IfOk-weaker c.open_beside.result _ _ (λ file is. opened_beside d first acts c.args.disk c.begun_beside.new.disk same c.in-Ok.begun day.1 file is) kept.1,
-      IfErr-weaker c.open_beside.result _ _ (λ e is. not_opened_beside d first acts c.args.disk c.begun_beside.new.disk same c.in-Ok.begun day.1 e is) kept.2,
+      on_err_both c.open_beside.result kept.2 (c.open_beside.ensures.own clean first acts history day.0)
+          (λ e is own. not_opened_beside d first acts c.args.disk c.begun_beside.new.disk same c.in-Ok.begun day.1 (c.in-Ok.ensures.fits (c.open_beside.ensures.clean clean) first acts history holds) e is own),
     )
 
 pub returns-in-Ok-clause-survives : goal.returns-in-Ok-clause-survives
