@@ -102,8 +102,8 @@ module _ {X K : Type 0} (d : Described X K) (laws : IsLawful d) where
   casts_all (s ∷ ss) = λ i. laws.casts s i ∷ casts_all ss i
 
   -- what the statement makes of the books
-  pub adds_many : (text : List ℕ) → AddsMany d text → (ss : List X) → length ss ≡ 8 → AreSound ss → (old new : State) (count : ℕ) → IsReady old.now → Counts count text (flat_map d.cells ss) old new → Goes (each_written (with_row d) ss) old new
-  adds_many text it ss eight good old new count ready h =
+  pub adds_many : (text : List ℕ) → AddsMany d text → (ss : List X) → length ss ≡ 5 → AreSound ss → (old new : State) (count : ℕ) → IsReady old.now → Counts count text (flat_map d.cells ss) old new → Goes (each_written (with_row d) ss) old new
+  adds_many text it ss five good old new count ready h =
       let params = flat_map d.cells ss in
       let tree = d.layout.tree in
       let rows = old.now.trees tree in
@@ -111,7 +111,7 @@ module _ {X K : Type 0} (d : Described X K) (laws : IsLawful d) where
       let kept = rows_of d laws old.now ready in
       let after = put_all rows (news rows ss) in
       let w = runs_as text params old new (schema_with rest) ready.has.is _ (it.is rest).0 (it.is rest).1 count h.executes.0 in
-      let u = all_go_in (schema_with rest) d.place tree _ _ _ _ _ _ (laws.placed rest) (λ olds more. sets_off_nothing rest tree olds more ready.has.apart) old new (many_terms d) (length d.add_terms) _ params (map d.source ss) (map d.source ss) count ready.has.is (as_eight text it ss eight) (casts_all ss) w in
+      let u = all_go_in (schema_with rest) d.place tree _ _ _ _ _ _ (laws.placed rest) (λ olds more. sets_off_nothing rest tree olds more ready.has.apart) old new (many_terms d) (length d.add_terms) _ params (map d.source ss) (map d.source ss) count ready.has.is (as_five text it ss five) (casts_all ss) w in
       let good_rows = rows_put rows ss good kept in
       let ready_now = ready_after old.now new.now tree after ready good_rows u.0 in
       let is_after : new.now.trees tree ≡ with_tree old.now.trees tree after tree = all-slice_get (λ t. new.now.trees t.tree ≡ with_tree old.now.trees tree after t.tree) (schema_with rest).tables d.place (laid d.layout) (laws.placed rest) u.0.trees_are in
@@ -121,14 +121,11 @@ module _ {X K : Type 0} (d : Described X K) (laws : IsLawful d) where
       (put_each old.now.trees rows ss good u.1 one ∙ ap (each_written (with_row d) ss) same)
       (λ are. typed_put old.now.trees (rule_of d) after (typed_put_all rows ss good (typed_rows d laws old.now.trees are)) d.place laws.ruled are)
     where
-      as_eight : (text : List ℕ) → AddsMany d text → (ss : List X) → length ss ≡ 8 → value_rows (flat_map d.cells ss ++ []) (length d.add_terms) (length (many_terms d) / length d.add_terms) (many_terms d) ≡ map d.source ss
-      as_eight text it (a ∷ b ∷ c ∷ e ∷ f ∷ g ∷ h ∷ i ∷ []) n = it.many a b c e f g h i
-      as_eight text it [] n = absurd (omega arith)
-      as_eight text it (a ∷ []) n = absurd (omega arith)
-      as_eight text it (a ∷ b ∷ []) n = absurd (omega arith)
-      as_eight text it (a ∷ b ∷ c ∷ []) n = absurd (omega arith)
-      as_eight text it (a ∷ b ∷ c ∷ e ∷ []) n = absurd (omega arith)
-      as_eight text it (a ∷ b ∷ c ∷ e ∷ f ∷ []) n = absurd (omega arith)
-      as_eight text it (a ∷ b ∷ c ∷ e ∷ f ∷ g ∷ []) n = absurd (omega arith)
-      as_eight text it (a ∷ b ∷ c ∷ e ∷ f ∷ g ∷ h ∷ []) n = absurd (omega arith)
-      as_eight text it (a ∷ b ∷ c ∷ e ∷ f ∷ g ∷ h ∷ i ∷ j ∷ more) n = absurd (omega arith)
+      as_five : (text : List ℕ) → AddsMany d text → (ss : List X) → length ss ≡ 5 → value_rows (flat_map d.cells ss ++ []) (length d.add_terms) (length (many_terms d) / length d.add_terms) (many_terms d) ≡ map d.source ss
+      as_five text it (a ∷ b ∷ c ∷ e ∷ f ∷ []) n = it.many a b c e f
+      as_five text it [] n = absurd (omega arith)
+      as_five text it (a ∷ []) n = absurd (omega arith)
+      as_five text it (a ∷ b ∷ []) n = absurd (omega arith)
+      as_five text it (a ∷ b ∷ c ∷ []) n = absurd (omega arith)
+      as_five text it (a ∷ b ∷ c ∷ e ∷ []) n = absurd (omega arith)
+      as_five text it (a ∷ b ∷ c ∷ e ∷ f ∷ g ∷ more) n = absurd (omega arith)

@@ -1,4 +1,4 @@
--- A statement that adds eight rows of a table.
+-- A statement that adds five rows of a table.
 use Rattle.std.specs.Prelude.{◌≡◌, ℕ, zero, suc, ◌+◌, ◌/◌, Bool, true, nat_le, length, List, [], ◌∷◌, ◌++◌, map, flat_map}
 use Rattle.sqlite_value.specs.declared.value.Value.TheVariants.{Null}
 use Rattle.sqlite.specs.Term.{Term, lit}
@@ -22,15 +22,15 @@ rows_from columns at zero = []
 rows_from columns at (suc rows) = (lit Null ∷ cols_from 0 columns at) ++ rows_from columns (at + length columns) rows
 
 abbrev pub many_terms : {X K : Type 0} → Described X K → List Term
-many_terms d = rows_from d.layout.columns 0 8
+many_terms d = rows_from d.layout.columns 0 5
 
 -- what holds of the statement
 pub record AddsMany {X K : Type 0} (d : Described X K) (text : List ℕ) : Type 0 where
   -- it inserts the rows that the terms tell, whatever tables there are beside those of the books
   pub is : (rest : Schema) → (command_of (understood (schema_with rest) text) ≡ Insert d.place (Values (many_terms d) (length d.add_terms))) × IsPlain (understood (schema_with rest) text)
-  -- these are eight rows before their rowids are chosen
-  pub many : (a b c e f g h i : X) → let eight : List X = a ∷ b ∷ c ∷ e ∷ f ∷ g ∷ h ∷ i ∷ [] in
-      value_rows (flat_map d.cells eight ++ []) (length d.add_terms) (length (many_terms d) / length d.add_terms) (many_terms d) ≡ map d.source eight
+  -- these are five rows before their rowids are chosen
+  pub many : (a b c e f : X) → let five : List X = a ∷ b ∷ c ∷ e ∷ f ∷ [] in
+      value_rows (flat_map d.cells five ++ []) (length d.add_terms) (length (many_terms d) / length d.add_terms) (many_terms d) ≡ map d.source five
 
 -- the columns of a row are what the table stores of it
 pub record AreColumnsOf {X K P : Type 0} (c : Columns P) (count : ℕ) (d : Described X K) (within : X → Bool) (columns_of : X → P) : Type 0 where

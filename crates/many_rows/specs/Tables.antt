@@ -16,25 +16,25 @@ line_columns = record { few = refl; cells = λ s. refl; fits = λ s. refl; has =
 
 pub lines_added : AddsMany lines ADD_LINES.now
 unfolding understood everything
-lines_added = record { is = λ rest. (refl, (refl, refl)); many = λ a b c e f g h i. refl }
+lines_added = record { is = λ rest. (refl, (refl, refl)); many = λ a b c e f. refl }
 
 pub reserved_columns : AreColumnsOf reserved_mapping.columns 4 reserved (fits_row reserved_mapping) reserved_mapping.parts
 reserved_columns = record { few = refl; cells = λ s. refl; fits = λ s. refl; has = λ s. refl }
 
 pub reserved_added : AddsMany reserved ADD_RESERVED_ROWS.now
 unfolding understood everything
-reserved_added = record { is = λ rest. (refl, (refl, refl)); many = λ a b c e f g h i. refl }
+reserved_added = record { is = λ rest. (refl, (refl, refl)); many = λ a b c e f. refl }
 
 pub shipline_columns : AreColumnsOf shipline_mapping.columns 4 shiplines (fits_row shipline_mapping) shipline_mapping.parts
 shipline_columns = record { few = refl; cells = λ s. refl; fits = λ s. refl; has = λ s. refl }
 
 pub shiplines_added : AddsMany shiplines ADD_SHIPLINES.now
 unfolding understood everything
-shiplines_added = record { is = λ rest. (refl, (refl, refl)); many = λ a b c e f g h i. refl }
+shiplines_added = record { is = λ rest. (refl, (refl, refl)); many = λ a b c e f. refl }
 
 pub card_columns : AreColumnsOf card_mapping.columns 8 cards (fits_row card_mapping) card_mapping.parts
 card_columns = record { few = refl; cells = λ s. refl; fits = λ s. refl; has = λ s. refl }
 
 pub cards_added : AddsMany cards ADD_CARDS.now
 unfolding understood everything
-cards_added = record { is = λ rest. (refl, (refl, refl)); many = λ a b c e f g h i. refl }
+cards_added = record { is = λ rest. (refl, (refl, refl)); many = λ a b c e f. refl }

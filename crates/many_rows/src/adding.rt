@@ -1,4 +1,4 @@
-//! Rows that are added eight a statement.
+//! Rows that are added five a statement.
 
 ghost use Rattle.std.specs.Prelude.{◌≡◌, ◌≤◌, true, length, map, flat_map, IfOk};
 ghost use Rattle.std.specs.List.{AllByRecursion, list_all};
@@ -18,7 +18,7 @@ use table_words::chain::{Chain, values};
 use table_words::error::TableFault;
 
 /// So many rows a statement.
-pub const MANY: usize = 8;
+pub const MANY: usize = 5;
 
 /// A table to which so many rows are added by one statement.
 pub trait AddedMany: Table {
@@ -89,13 +89,13 @@ fn all_fit<T: Table>(rows: &[T::Row]) -> bool
     true
 }
 
-/// Adds eight rows by one statement.
-fn add_eight<T: AddedMany, S: Alter>(
+/// Adds five rows by one statement.
+fn add_five<T: AddedMany, S: Alter>(
     alloc: Global,
     tx: &mut Transaction<'_, S>,
     rows: &[T::Row],
 ) -> Result<(), TableFault>
-    requires eight { length rows.now ≡ 8 }
+    requires five { length rows.now ≡ 5 }
     requires fit { list_all T.fits rows.now ≡ true }
     ensures same_reference { tx.new.conn.ghost_name ≡ tx.old.conn.ghost_name }
     ensures writes { Writes (each_written (with_row T.table) rows.now) (state S.Store tx.old.conn.now) (state S.Store tx.new.conn.now) result }
@@ -108,23 +108,23 @@ fn add_eight<T: AddedMany, S: Alter>(
     }
 }
 
-/// Adds eight rows: one by one, where a number is above its limit.
+/// Adds five rows: one by one, where a number is above its limit.
 fn add_part<T: AddedMany, S: Alter>(
     alloc: Global,
     tx: &mut Transaction<'_, S>,
     rows: &[T::Row],
 ) -> Result<(), TableFault>
-    requires { length rows.now ≡ 8 }
+    requires { length rows.now ≡ 5 }
     ensures same_reference { tx.new.conn.ghost_name ≡ tx.old.conn.ghost_name }
     ensures writes { Writes (each_written (with_row T.table) rows.now) (state S.Store tx.old.conn.now) (state S.Store tx.new.conn.now) result }
 {
     if all_fit::<T>(rows) {
-        return add_eight::<T, S>(alloc, tx, rows);
+        return add_five::<T, S>(alloc, tx, rows);
     }
     add_all::<T, S>(tx, rows)
 }
 
-/// Adds each row in turn, eight a statement as long as there are so many left. Where there is one with the key of another
+/// Adds each row in turn, five a statement as long as there are so many left. Where there is one with the key of another
 /// it is refused, and where a number is above its limit it is refused as too big.
 pub fn add_many<T: AddedMany, S: Alter>(
     alloc: Global,

@@ -1,4 +1,4 @@
-//! Rows that are added eight a statement: a statement is dear for its code, and not for its rows.
+//! Rows that are added five a statement: a statement is dear for its code, and not for its rows.
 #![tactic(auto)]
 
 pub mod adding;

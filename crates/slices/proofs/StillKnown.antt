@@ -16,8 +16,8 @@ use Rattle.goods_tables.specs.Recalls.{AreRecallsOf}
 use Rattle.order_tables.specs.Lines.{AreLinesOfOrder, AreLineOf}
 use Rattle.goods_tables.specs.Stock.{AreStockOf}
 use Rattle.order_tables.specs.Orders.{AreOrdersOf}
-use Rattle.order_tables.specs.Reserved.{AreReservedOfItem}
-use Rattle.order_tables.specs.Staged.{AreStagedOfItem}
+use Rattle.order_tables.specs.Reserved.{AreReservedOfItem, AreReservedOfOrder}
+use Rattle.order_tables.specs.Staged.{AreStagedOfItem, AreStagedOfOrder}
 use Rattle.order_tables.specs.Urgents.{AreUrgentsOf}
 use Rattle.known_rows.proofs.Learned.{remembers_left, remembers_none}
 use Rattle.slices.specs.Following.{KnowsMeta, KnowsFollowed, KnowsNoneFollowed}
@@ -36,7 +36,9 @@ none_followed t known none = record {
   lines_at = remembers_none line_key_cmp turned_line (λ by found. AreLineOf by t found) known.lines_at.rows none.lines_at;
   stock = remembers_none (slice_cmp nat_cmp) reverse (λ by found. AreStockOf by t found) known.stock.rows none.stock;
   staged = remembers_none (slice_cmp nat_cmp) reverse (λ by found. AreStagedOfItem by t found) known.staged.rows none.staged;
+  staged_for = remembers_none (slice_cmp nat_cmp) reverse (λ by found. AreStagedOfOrder by t found) known.staged_for.rows none.staged_for;
   reserved = remembers_none (slice_cmp nat_cmp) reverse (λ by found. AreReservedOfItem by t found) known.reserved.rows none.reserved;
+  reserved_for = remembers_none (slice_cmp nat_cmp) reverse (λ by found. AreReservedOfOrder by t found) known.reserved_for.rows none.reserved_for;
   meta = subst (λ (x : Option MetaRow). KnowsMeta t x) (sym none.meta) tt;
 }
 

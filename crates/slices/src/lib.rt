@@ -23,7 +23,8 @@ mod urgent_orders;
 pub use followed::Followed;
 pub use knowing::{Bounds, Known};
 pub use known_followed::{
-    known_meta, seek_reserved, seek_staged, seek_stock, seek_stock_of, seek_stock_of_lots,
+    known_meta, seek_reserved, seek_reserved_for, seek_staged, seek_staged_for, seek_stock,
+    seek_stock_of, seek_stock_of_lots,
 };
 pub use known_goods::{
     seek_bin, seek_bins, seek_item, seek_items, seek_least, seek_least_of, seek_lot, seek_lots,

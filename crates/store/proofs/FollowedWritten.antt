@@ -1,6 +1,6 @@
 -- The rows that follow what is written are those of the tables that a change leaves.
-use Rattle.std.proofs.Common.{◌≡◌, ℕ, Bool, true, List, refl, sym, ap, subst, ◌∙◌}
-use Rattle.std.specs.Prelude.{if◌then◌else◌, reverse, Option, Some, None}
+use Rattle.std.proofs.Common.{◌≡◌, ℕ, Bool, true, false, inl, inr, List, refl, sym, ap, subst, ◌∙◌}
+use Rattle.std.specs.Prelude.{bytes_eq, if◌then◌else◌, reverse, Option, Some, None, IfSome}
 use Rattle.std.specs.Ordering.{nat_cmp, is_eq}
 use Rattle.std.specs.declared.cmp.Ordering.{Ordering}
 use Rattle.std.specs.Cmp.Lexicographic.{slice_cmp}
@@ -36,13 +36,14 @@ use Rattle.order_tables.specs.Lines.{lines_laws}
 use Rattle.order_tables.specs.Orders.{orders_laws}
 use Rattle.order_tables.specs.Urgents.{urgents_laws}
 use Rattle.order_tables.specs.Reserved.{reserved_laws}
-use Rattle.order_tables.specs.Staged.{AreStagedOfItem, staged_laws}
+use Rattle.order_tables.specs.Staged.{AreStagedOfItem, AreStagedOfOrder, staged_laws}
 use Rattle.changes.specs.Written.{names_written, goods_written, lines_written, stage_emptied, orders_written, change_written}
-use Rattle.known_rows.specs.KnownRows.{RowMap, ChangesBy, Remembers, with_put}
+use Rattle.known_rows.specs.KnownRows.{RowMap, rows_at, ChangesBy, Remembers, with_put}
 use Rattle.known_rows.proofs.Learned.{remembers_none}
 use Rattle.known_reads.proofs.KnownWritten.{known_as, known_put, known_dropped}
-use Rattle.slices.specs.Following.{KnowsLots, KnowsLotsOf, KnowsOrders, KnowsUrgents, KnowsLines, KnowsLinesAt, KnowsStock, KnowsStaged, KnowsReserved, KnowsMeta, KnowsFollowed, LotsPut, LotsOfPut, OrdersPut, UrgentsPut, LinesPut, LinesAtPut, StockFollows, StagedFollows, ReservedFollows, Follows}
+use Rattle.slices.specs.Following.{KnowsLots, KnowsLotsOf, KnowsOrders, KnowsUrgents, KnowsLines, KnowsLinesAt, KnowsStock, KnowsStaged, KnowsStagedFor, KnowsReserved, KnowsReservedFor, KnowsMeta, KnowsFollowed, LotsPut, LotsOfPut, OrdersPut, UrgentsPut, LinesPut, LinesAtPut, StockFollows, StageLeft, StagedFollows, StageForgotten, StagedForFollows, ReservedFollows, ReservedForFollows, Follows}
 use Rattle.slices.specs.declared.followed.Followed.{Followed}
+use Rattle.store.proofs.StageEmptied.{staged_at, without_order, rows_gone, others_stay}
 use Rattle.store.proofs.LinesWritten.{rows_spare, stage_spares, Ordered, goods_spare, change_spares}
 
 -- Rows are put, and what is known of them with them is known of all that is written
@@ -71,9 +72,6 @@ by_line x k = x.1 k.0 k.1
 
 abbrev stock_at : Tables → StockKey → Option StockRow
 stock_at t k = t.stock k.0 k.1
-
-abbrev staged_at : Tables → StagedKey → Option StagedRow
-staged_at t k = t.staged k.0 k.1
 
 abbrev reserved_at : Tables → ReservedKey → Option ReservedRow
 reserved_at t k = t.reserved k.0 k.1
@@ -203,26 +201,66 @@ module _ (c : Change) (row : RepeatRow) (t : Tables) where
       (known_dropped (slice_cmp nat_cmp) reverse same_text names_told same_stock stock_key stock_laws.itself stock_laws.one_key stock_at (λ g k. same_text g k.0.gtin) (λ r. r.lot.gtin) (λ by r. refl) (λ r. without_stock r.lot r.bin) (λ r u. refl) c.dropped.stock recalled old mid drops
       (known_as (slice_cmp nat_cmp) reverse same_text names_told same_stock stock_key stock_laws.itself stock_laws.one_key stock_at (λ g k. same_text g k.0.gtin) (λ r. r.lot.gtin) (λ by r. refl) t recalled (sym stock_before) old known)))
 
-  -- where no stage was emptied
-  staged_before : c.dropped.stage ≡ None → staged_at emptied ≡ staged_at t
-  staged_before none =
-      ap (λ (x : Option (List ℕ)). staged_at (stage_emptied x with_lines)) none ∙ rows_spare staged_at with_line (λ r u. refl) c.put.lines with_urgents ∙ rows_spare staged_at with_urgent (λ r u. refl) c.put.urgents with_orders
+  -- before a stage is emptied
+  staged_before : staged_at with_lines ≡ staged_at t
+  staged_before =
+      rows_spare staged_at with_line (λ r u. refl) c.put.lines with_urgents ∙ rows_spare staged_at with_urgent (λ r u. refl) c.put.urgents with_orders
       ∙ rows_spare staged_at with_order (λ r u. refl) c.put.orders stocked ∙ rows_spare staged_at with_stock (λ r u. refl) c.put.stock unstocked ∙ rows_spare staged_at (λ r. without_stock r.lot r.bin) (λ r u. refl) c.dropped.stock recalled
       ∙ rows_spare staged_at with_recall (λ r u. refl) c.put.recalls lotted ∙ rows_spare staged_at with_lot (λ r u. refl) c.put.lots named ∙ rows_spare staged_at with_bin (λ r u. refl) c.put.bins asked
       ∙ rows_spare staged_at with_least (λ r u. refl) c.put.least with_items ∙ rows_spare staged_at with_item (λ r u. refl) c.put.items t
+
+  none_emptied : c.dropped.stage ≡ None → staged_at emptied ≡ staged_at t
+  none_emptied none = ap (λ (x : Option (List ℕ)). staged_at (stage_emptied x with_lines)) none ∙ staged_before
+
+  one_emptied : (order : List ℕ) → c.dropped.stage ≡ Some order → staged_at emptied ≡ without_order order t
+  one_emptied order some = ap (λ (x : Option (List ℕ)). staged_at (stage_emptied x with_lines)) some ∙ (λ i k. if bytes_eq order k.0 then None else staged_before i k)
 
   staged_left : staged_at left ≡ staged_at staged
   staged_left =
       rows_spare staged_at with_card (λ r u. refl) c.put.cards shipped_lines ∙ rows_spare staged_at with_shipline (λ r u. refl) c.put.shiplines shipped ∙ rows_spare staged_at with_shipment (λ r u. refl) c.put.shipments with_all_orders
       ∙ rows_spare staged_at with_reserved (λ r u. refl) c.put.reserved unreserved ∙ rows_spare staged_at (λ r. without_reserved r.order r.lot) (λ r u. refl) c.dropped.reserved staged
 
-  staged_followed : (stage : Option (List ℕ)) → c.dropped.stage ≡ stage → (old new : RowMap (List ℕ) StagedRow) → StagedFollows c.put c.dropped stage old new → KnowsStaged t old → KnowsStaged left new
-  staged_followed (Some order) is old new none known = remembers_none (slice_cmp nat_cmp) reverse (λ by found. AreStagedOfItem by left found) new none
-  staged_followed None is old new (mid, drops, puts) known =
-      known_as (slice_cmp nat_cmp) reverse same_text names_told same_staged staged_key staged_laws.itself staged_laws.one_key staged_at (λ g k. same_text g k.1.gtin) (λ r. r.lot.gtin) (λ by r. refl) staged left (sym staged_left) new
+  abbrev by_item : (t u : Tables) → staged_at t ≡ staged_at u → (m : RowMap (List ℕ) StagedRow) → KnowsStaged t m → KnowsStaged u m
+  by_item = known_as (slice_cmp nat_cmp) reverse same_text names_told same_staged staged_key staged_laws.itself staged_laws.one_key staged_at (λ g k. same_text g k.1.gtin) (λ r. r.lot.gtin) (λ by r. refl)
+
+  -- what is known by the item, once the stage of an order was emptied
+  stage_left : (stage : Option (List ℕ)) → c.dropped.stage ≡ stage → (stages old new : RowMap (List ℕ) StagedRow) → StageLeft stage stages old new → KnowsStagedFor t stages → KnowsStaged t old → KnowsStaged emptied new
+  stage_left None is stages old new same by_order known = by_item t emptied (sym (none_emptied is)) new (subst (KnowsStaged t) (sym same) known)
+  stage_left (Some order) is stages old new (inl (gone, at, drops)) by_order known =
+      let are : AreStagedOfOrder order t gone = subst (λ (x : Option (List StagedRow)). IfSome x (AreStagedOfOrder order t)) at (by_order order) in
+      by_item (each_written (λ r. without_staged r.order r.lot) gone t) emptied (rows_gone order t gone are ∙ sym (one_emptied order is)) new
+      (known_dropped (slice_cmp nat_cmp) reverse same_text names_told same_staged staged_key staged_laws.itself staged_laws.one_key staged_at (λ g k. same_text g k.1.gtin) (λ r. r.lot.gtin) (λ by r. refl) (λ r. without_staged r.order r.lot) (λ r u. refl) gone t old new drops known)
+  stage_left (Some order) is stages old new (inr none) by_order known = remembers_none (slice_cmp nat_cmp) reverse (λ by found. AreStagedOfItem by emptied found) new none
+
+  staged_followed : (stages old new : RowMap (List ℕ) StagedRow) → StagedFollows c.put c.dropped stages old new → KnowsStagedFor t stages → KnowsStaged t old → KnowsStaged left new
+  staged_followed stages old new (first, leaves, mid, drops, puts) by_order known =
+      by_item staged left (sym staged_left) new
       (known_put (slice_cmp nat_cmp) reverse same_text names_told same_staged staged_key staged_laws.itself staged_laws.one_key staged_at (λ g k. same_text g k.1.gtin) (λ r. r.lot.gtin) (λ by r. refl) with_staged (λ r u. refl) c.put.staged unstaged mid new puts
-      (known_dropped (slice_cmp nat_cmp) reverse same_text names_told same_staged staged_key staged_laws.itself staged_laws.one_key staged_at (λ g k. same_text g k.1.gtin) (λ r. r.lot.gtin) (λ by r. refl) (λ r. without_staged r.order r.lot) (λ r u. refl) c.dropped.staged emptied old mid drops
-      (known_as (slice_cmp nat_cmp) reverse same_text names_told same_staged staged_key staged_laws.itself staged_laws.one_key staged_at (λ g k. same_text g k.1.gtin) (λ r. r.lot.gtin) (λ by r. refl) t emptied (sym (staged_before is)) old known)))
+      (known_dropped (slice_cmp nat_cmp) reverse same_text names_told same_staged staged_key staged_laws.itself staged_laws.one_key staged_at (λ g k. same_text g k.1.gtin) (λ r. r.lot.gtin) (λ by r. refl) (λ r. without_staged r.order r.lot) (λ r u. refl) c.dropped.staged emptied first mid drops
+      (stage_left c.dropped.stage refl stages old first leaves by_order known)))
+
+  abbrev by_name : (t u : Tables) → staged_at t ≡ staged_at u → (m : RowMap (List ℕ) StagedRow) → KnowsStagedFor t m → KnowsStagedFor u m
+  by_name = known_as (slice_cmp nat_cmp) reverse same_text names_told same_staged staged_key staged_laws.itself staged_laws.one_key staged_at (λ o k. same_text o k.0) (λ r. r.order) (λ by r. refl)
+
+  -- and by the order
+  stage_forgotten : (stage : Option (List ℕ)) → c.dropped.stage ≡ stage → (old new : RowMap (List ℕ) StagedRow) → StageForgotten stage old new → KnowsStagedFor t old → KnowsStagedFor emptied new
+  stage_forgotten None is old new same known = by_name t emptied (sym (none_emptied is)) new (subst (KnowsStagedFor t) (sym same) known)
+  stage_forgotten (Some order) is old new forgets known by = told (same_text by order) refl
+    where
+      others : same_text by order ≡ false → (x : Option (List StagedRow)) → IfSome x (AreStagedOfOrder by t) → IfSome x (AreStagedOfOrder by emptied)
+      others apart None h = tt
+      others apart (Some rows) h = others_stay order t emptied (one_emptied order is) by apart rows h
+
+      told : (b : Bool) → same_text by order ≡ b → IfSome (rows_at (slice_cmp nat_cmp) new (reverse by)) (AreStagedOfOrder by emptied)
+      told true e = subst (λ (x : Option (List StagedRow)). IfSome x (AreStagedOfOrder by emptied)) (sym (forgets (reverse by) ∙ ap (λ b. if b then None else rows_at (slice_cmp nat_cmp) old (reverse by)) (names_told by order ∙ e))) tt
+      told false e = subst (λ (x : Option (List StagedRow)). IfSome x (AreStagedOfOrder by emptied)) (sym (forgets (reverse by) ∙ ap (λ b. if b then None else rows_at (slice_cmp nat_cmp) old (reverse by)) (names_told by order ∙ e))) (others e (rows_at (slice_cmp nat_cmp) old (reverse by)) (known by))
+
+  staged_for_followed : (old new : RowMap (List ℕ) StagedRow) → StagedForFollows c.put c.dropped old new → KnowsStagedFor t old → KnowsStagedFor left new
+  staged_for_followed old new (first, mid, forgets, drops, puts) known =
+      by_name staged left (sym staged_left) new
+      (known_put (slice_cmp nat_cmp) reverse same_text names_told same_staged staged_key staged_laws.itself staged_laws.one_key staged_at (λ o k. same_text o k.0) (λ r. r.order) (λ by r. refl) with_staged (λ r u. refl) c.put.staged unstaged mid new puts
+      (known_dropped (slice_cmp nat_cmp) reverse same_text names_told same_staged staged_key staged_laws.itself staged_laws.one_key staged_at (λ o k. same_text o k.0) (λ r. r.order) (λ by r. refl) (λ r. without_staged r.order r.lot) (λ r u. refl) c.dropped.staged emptied first mid drops
+      (stage_forgotten c.dropped.stage refl old first forgets known)))
 
   reserved_before : reserved_at staged ≡ reserved_at t
   reserved_before =
@@ -241,6 +279,13 @@ module _ (c : Change) (row : RepeatRow) (t : Tables) where
       (known_dropped (slice_cmp nat_cmp) reverse same_text names_told same_reserved reserved_key reserved_laws.itself reserved_laws.one_key reserved_at (λ g k. same_text g k.1.gtin) (λ r. r.lot.gtin) (λ by r. refl) (λ r. without_reserved r.order r.lot) (λ r u. refl) c.dropped.reserved staged old mid drops
       (known_as (slice_cmp nat_cmp) reverse same_text names_told same_reserved reserved_key reserved_laws.itself reserved_laws.one_key reserved_at (λ g k. same_text g k.1.gtin) (λ r. r.lot.gtin) (λ by r. refl) t staged (sym reserved_before) old known)))
 
+  reserved_for_followed : (old new : RowMap (List ℕ) ReservedRow) → ReservedForFollows c.put c.dropped old new → KnowsReservedFor t old → KnowsReservedFor left new
+  reserved_for_followed old new (mid, drops, puts) known =
+      known_as (slice_cmp nat_cmp) reverse same_text names_told same_reserved reserved_key reserved_laws.itself reserved_laws.one_key reserved_at (λ o k. same_text o k.0) (λ r. r.order) (λ by r. refl) with_all_orders left (sym reserved_left) new
+      (known_put (slice_cmp nat_cmp) reverse same_text names_told same_reserved reserved_key reserved_laws.itself reserved_laws.one_key reserved_at (λ o k. same_text o k.0) (λ r. r.order) (λ by r. refl) with_reserved (λ r u. refl) c.put.reserved unreserved mid new puts
+      (known_dropped (slice_cmp nat_cmp) reverse same_text names_told same_reserved reserved_key reserved_laws.itself reserved_laws.one_key reserved_at (λ o k. same_text o k.0) (λ r. r.order) (λ by r. refl) (λ r. without_reserved r.order r.lot) (λ r u. refl) c.dropped.reserved staged old mid drops
+      (known_as (slice_cmp nat_cmp) reverse same_text names_told same_reserved reserved_key reserved_laws.itself reserved_laws.one_key reserved_at (λ o k. same_text o k.0) (λ r. r.order) (λ by r. refl) t staged (sym reserved_before) old known)))
+
   pub followed_written : (old new : Followed) → Follows c old new → KnowsFollowed t old → KnowsFollowed left new
   followed_written old new follows known = record {
     lots = lots_followed old.lots.rows new.lots.rows follows.lots known.lots;
@@ -250,7 +295,9 @@ module _ (c : Change) (row : RepeatRow) (t : Tables) where
     lines = lines_followed old.lines.rows new.lines.rows follows.lines known.lines;
     lines_at = lines_at_followed old.lines_at.rows new.lines_at.rows follows.lines_at known.lines_at;
     stock = stock_followed old.stock.rows new.stock.rows follows.stock known.stock;
-    staged = staged_followed c.dropped.stage refl old.staged.rows new.staged.rows follows.staged known.staged;
+    staged = staged_followed old.staged_for.rows old.staged.rows new.staged.rows follows.staged known.staged_for known.staged;
+    staged_for = staged_for_followed old.staged_for.rows new.staged_for.rows follows.staged_for known.staged_for;
     reserved = reserved_followed old.reserved.rows new.reserved.rows follows.reserved known.reserved;
+    reserved_for = reserved_for_followed old.reserved_for.rows new.reserved_for.rows follows.reserved_for known.reserved_for;
     meta = subst (λ (x : Option MetaRow). KnowsMeta left x) (sym follows.meta) refl;
   }

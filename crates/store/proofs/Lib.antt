@@ -24,6 +24,7 @@ pub mod ShipmentCards
 pub mod ShipmentsHanded
 pub mod LinesWritten
 pub mod BoundsWritten
+pub mod StageEmptied
 pub mod FollowedWritten
 pub mod RowsWritten
 pub mod KnownKept

@@ -20,13 +20,13 @@ loop-rest-preserved g c =
     let rest = c.loop-rest.rest.now in
     let so_far = c.loop-rest.invariant in
     let done : List _ = so_far.1.0 in
-    let part : List _ = take 8 rest in
-    let left : take (length rest - 8) (drop 8 rest) ≡ drop 8 rest = take_all (length rest - 8) (drop 8 rest) (omega (arith, length-drop 8 rest)) in
+    let part : List _ = take 5 rest in
+    let left : take (length rest - 5) (drop 5 rest) ≡ drop 5 rest = take_all (length rest - 5) (drop 5 rest) (omega (arith, length-drop 5 rest)) in
     let both : ((t : Tables) → each_written write part (each_written write done t) ≡ each_written write (done ++ part) t) = λ t. sym (each_both write done part t) in (
       c.in_ok-add_part.ensures.same_reference ∙ so_far.0,
       (
         done ++ part,
-        so_far.1.1 ∙ ap (λ l. done ++ l) (sym (take-append-drop 8 rest)) ∙ sym (append_assoc done part (drop 8 rest)) ∙ ap (λ l. (done ++ part) ++ l) (sym left),
+        so_far.1.1 ∙ ap (λ l. done ++ l) (sym (take-append-drop 5 rest)) ∙ sym (append_assoc done part (drop 5 rest)) ∙ ap (λ l. (done ++ part) ++ l) (sym left),
         subst (λ (f : Tables → Tables). Writes {X = Unit {0}} f old new (Ok tt)) (λ j t. both t j) (writes_then (λ _. each_written write done) (λ _. each_written write part) old mid new tt (Ok tt) so_far.1.2 c.in_ok-add_part.ensures.writes),
       ),
     )

@@ -24,6 +24,6 @@ returns-clause-read g c = so_told {P = λ (t : Tables) (row : MetaRow). t.meta �
     least = all.least;
     bins = all.bins;
     recalls = all.recalls;
-    followed = subst (λ (x : Followed). KnowsFollowed t x) (sym c.know_meta.ensures) (record { lots = all.followed.lots; lots_of = all.followed.lots_of; orders = all.followed.orders; urgents = all.followed.urgents; lines = all.followed.lines; lines_at = all.followed.lines_at; stock = all.followed.stock; staged = all.followed.staged; reserved = all.followed.reserved; meta = there });
+    followed = subst (λ (x : Followed). KnowsFollowed t x) (sym c.know_meta.ensures) (record { lots = all.followed.lots; lots_of = all.followed.lots_of; orders = all.followed.orders; urgents = all.followed.urgents; lines = all.followed.lines; lines_at = all.followed.lines_at; stock = all.followed.stock; staged = all.followed.staged; staged_for = all.followed.staged_for; reserved = all.followed.reserved; reserved_for = all.followed.reserved_for; meta = there });
   },
 ))

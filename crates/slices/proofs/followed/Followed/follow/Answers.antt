@@ -24,6 +24,8 @@ returns c =
       lines_at = subst (λ (rows : List LineRow). ChangesBy line_key_cmp (λ (r : LineRow). turned_line (r.order, r.gtin)) (with_put same_line_row) rows old.lines_at.rows c.put_all-6.new.self.rows) c.as_slice-6.ensures c.put_all-6.ensures;
       stock = c.follow_stock.ensures;
       staged = c.follow_staged.ensures;
+      staged_for = c.follow_staged_for.ensures;
       reserved = c.follow_reserved.ensures;
+      reserved_for = c.follow_reserved_for.ensures;
       meta = refl;
     }

@@ -38,5 +38,5 @@ returns-clause-read g c =
     let urgents_told = h.1 known.urgents in (
       told t lines_told.0 urgents_told.0,
       subst (λ (rows : RowsKnown). KnowsFollowed t rows.followed) (sym c.in_ok-add_lines.ensures.rows)
-          (record { lots = known.lots; lots_of = known.lots_of; orders = known.orders; urgents = urgents_told.1; lines = lines_told.1; lines_at = known.lines_at; stock = known.stock; staged = known.staged; reserved = known.reserved; meta = known.meta }),
+          (record { lots = known.lots; lots_of = known.lots_of; orders = known.orders; urgents = urgents_told.1; lines = lines_told.1; lines_at = known.lines_at; stock = known.stock; staged = known.staged; staged_for = known.staged_for; reserved = known.reserved; reserved_for = known.reserved_for; meta = known.meta }),
     ))

@@ -12,7 +12,7 @@ use Rattle.keyed_rows.specs.Described.{with_row, sound}
 use Rattle.keyed_rows.proofs.Writing.{same_error, writes_none, ran_writes}
 use Rattle.many_rows.proofs.ManyAdded.{adds_many}
 use Rattle.many_rows.proofs.Parts.{flat_mapped, all_mapped, tests_mapped}
-use Rattle.many_rows.proofs.adding.add_eight.Goals as goal
+use Rattle.many_rows.proofs.adding.add_five.Goals as goal
 
 pub values_of_all-requires-clause-fit : goal.values_of_all-requires-clause-fit
 values_of_all-requires-clause-fit g c =
@@ -43,4 +43,4 @@ returns-in-Ok-clause-writes g c =
     let good : AllByRecursion (λ s. sound d s ≡ true) rows = all_mapped _ _ (λ s. sound d s ≡ true) (λ s h. sym (law.has s) ∙ ap (g.T.Columns.Chain.columns.has 0) (sym (law.cells s)) ∙ h) rows (subst (AllByRecursion _) columns c.in_ok-params.ensures.rule) in
     let ran : Ran g.S.Store text (flat_map d.cells rows) old new (Ok c.in-Ok.field-0) = subst (λ (p : Row). Ran g.S.Store text p old new (Ok c.in-Ok.field-0)) params (rw c.many_text.ensures at c.in-Ok.ensures.ran) in
     (ran_writes g.S.Store text (flat_map d.cells rows) old new c.in-Ok.field-0 tt (λ _. each_written (with_row d) rows) ran
-    (λ ready counts. adds_many d g.met.T.Table.laws text g.met.T.AddedMany.many_laws rows c.requires.eight good (state g.S.Store old) (state g.S.Store new) c.in-Ok.field-0 ready counts)).writes
+    (λ ready counts. adds_many d g.met.T.Table.laws text g.met.T.AddedMany.many_laws rows c.requires.five good (state g.S.Store old) (state g.S.Store new) c.in-Ok.field-0 ready counts)).writes
