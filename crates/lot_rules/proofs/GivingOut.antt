@@ -1,5 +1,5 @@
 -- What is made of rows that are given for the text of each lot is what is made of all rows.
-use Rattle.std.proofs.Common.{◌≡◌, ℕ, ◌+◌, List, ap}
+use Rattle.std.proofs.Common.{◌≡◌, ℕ, ◌+◌, Bool, List, ap, ◌∙◌}
 use Rattle.std.specs.Prelude.{ℤ, pos, ◌+ℤ◌, not, ◌==◌, if◌then◌else◌, [], filter, flat_map, find}
 use Rattle.std.proofs.lemmas.List.Elements.{filter_agree}
 use Rattle.values.specs.Values.{same_text}
@@ -16,7 +16,8 @@ use Rattle.row_rules.specs.Status.{is_past_row, days_in, earliest_seen}
 use Rattle.row_rules.specs.LookUps.{GivesRows}
 use Rattle.row_rules.proofs.LookingUp.{find_given, gathered_agree}
 use Rattle.row_rules.proofs.GivingLots.{lot_given, staged_given, cell_given, any_cell_given}
-use Rattle.lot_rules.specs.Expiring.{stands_in}
+use Rattle.row_rules.specs.declared.slice.Slice.{Slice}
+use Rattle.lot_rules.specs.Expiring.{stands_in, is_out, staged_kept_on, staged_gone_on}
 use Rattle.lot_rules.specs.GivenOut.{is_out_given, row_returned}
 
 -- Lots that are out
@@ -25,18 +26,18 @@ module _ (given : List ℕ → List LotRow) (lots : List LotRow) (gives : GivesR
   from_given : (g : List ℕ) → earliest_seen day (asked g) g ≡ earliest_seen day least g
   from_given g = ap (λ x. day +ℤ pos (days_in x)) (find_given (λ r. same_text g r.gtin) (λ r. same_text g r.gtin) (λ r e. e) (asked g) least (gives_least g))
 
-  out_given : (l : LotId) → is_out_given given day asked l ≡ is_past_row (find (λ k. is_lot l k.lot) lots) (earliest_seen day least l.gtin)
+  pub out_given : (l : LotId) → is_out_given given day asked l ≡ is_past_row (find (λ k. is_lot l k.lot) lots) (earliest_seen day least l.gtin)
   out_given l = λ i. is_past_row (lot_given given lots gives l i) (from_given l.gtin i)
 
-  pub kept_given : (rows : List StagedRow) → filter (λ r. not (is_out_given given day asked r.lot)) rows ≡ filter (λ r. not (is_past_row (find (λ k. is_lot r.lot k.lot) lots) (earliest_seen day least r.lot.gtin))) rows
-  kept_given rows =
-      filter_agree (λ r. not (is_out_given given day asked r.lot)) (λ r. not (is_past_row (find (λ k. is_lot r.lot k.lot) lots) (earliest_seen day least r.lot.gtin))) (λ r. ap not (out_given r.lot)) rows
+module _ (out : LotId → Bool) (s : Slice) (day : ℤ) (least : List LeastRow) (same : (l : LotId) → out l ≡ is_out s day least l) where
+  pub kept_same : (rows : List StagedRow) → rows ≡ s.rows.staged → filter (λ r. not (out r.lot)) rows ≡ staged_kept_on s day least
+  kept_same rows e = filter_agree (λ r. not (out r.lot)) (λ r. not (is_out s day least r.lot)) (λ r. ap not (same r.lot)) rows ∙ ap (filter (λ (r : StagedRow). not (is_out s day least r.lot))) e
 
-  pub gone_given : (rows : List StagedRow) → filter (λ r. is_out_given given day asked r.lot) rows ≡ filter (λ r. is_past_row (find (λ k. is_lot r.lot k.lot) lots) (earliest_seen day least r.lot.gtin)) rows
-  gone_given rows = filter_agree (λ r. is_out_given given day asked r.lot) (λ r. is_past_row (find (λ k. is_lot r.lot k.lot) lots) (earliest_seen day least r.lot.gtin)) (λ r. out_given r.lot) rows
+  pub gone_same : (rows : List StagedRow) → rows ≡ s.rows.staged → filter (λ r. out r.lot) rows ≡ staged_gone_on s day least
+  gone_same rows e = filter_agree (λ r. out r.lot) (λ r. is_out s day least r.lot) (λ r. same r.lot) rows ∙ ap (filter (λ (r : StagedRow). is_out s day least r.lot)) e
 
-  pub lots_given : (rows : List LotRow) → filter (λ r. is_out_given given day asked r.lot) rows ≡ filter (λ r. is_past_row (find (λ k. is_lot r.lot k.lot) lots) (earliest_seen day least r.lot.gtin)) rows
-  lots_given rows = filter_agree (λ r. is_out_given given day asked r.lot) (λ r. is_past_row (find (λ k. is_lot r.lot k.lot) lots) (earliest_seen day least r.lot.gtin)) (λ r. out_given r.lot) rows
+  pub lots_same : (rows : List LotRow) → rows ≡ s.rows.lots → filter (λ k. out k.lot) rows ≡ filter (λ k. is_out s day least k.lot) s.rows.lots
+  lots_same rows e = filter_agree (λ k. out k.lot) (λ k. is_out s day least k.lot) (λ k. same k.lot) rows ∙ ap (filter (λ (k : LotRow). is_out s day least k.lot)) e
 
 -- Stock rows
 

@@ -3,6 +3,7 @@ use Rattle.std.proofs.Common.{◌≡◌, ℕ, Bool, true, false, ◌&&◌, not, 
 use Rattle.std.specs.Prelude.{◌==◌, ◌||◌, if◌then◌else◌, Some, find, filter, map, flat_map}
 use Rattle.std.specs.List.{list_any}
 use Rattle.std.proofs.lemmas.Bool.{eqb-true}
+use Rattle.std.proofs.lemmas.List.Folds.{list_any-append}
 use Rattle.values.specs.Values.{same_text}
 use Rattle.commands.specs.Lists.{total}
 use Rattle.commands.specs.Replies.{reply_text}
@@ -28,7 +29,6 @@ use Rattle.row_rules.specs.Replanning.{same_row, rows_apart, rows_behind, shares
 use Rattle.row_rules.specs.declared.slice.Slice.{Slice}
 use Rattle.row_rules.specs.declared.replanning.Replanned.{Replanned}
 use Rattle.row_rules.proofs.LookingUp.{total_agree, map_agree}
-use Rattle.row_rules.proofs.RowsApart.{any_append}
 use Rattle.row_rules.specs.SeenLots.{stock_put}
 use Rattle.lot_rules.specs.DecidedHold.{staged_of_seen, units_in_returns, returned_put, bins_with_returns, returns_bin_row}
 use Rattle.lot_rules.specs.Expiring.{is_out, staged_kept_on, staged_gone_on, units_out, lot_returned_on, stock_returned, stock_on, stands_in, gtins_seen, replanned_on, reserved_put_on, reserved_gone_on, changes_on}
@@ -54,7 +54,7 @@ same_itself : (r : Row) → same_row r r ≡ true
 same_itself r = λ i. eq-eqb r.booking r.booking refl i && eq-eqb r.lot r.lot refl i && eq-eqb r.qty r.qty refl i
 
 among_all : (front : List Row) (r : Row) (rs : List Row) → list_any (same_row r) (front ++ r ∷ rs) ≡ true
-among_all front r rs = any_append (same_row r) front (r ∷ rs) ∙ ap (λ b. list_any (same_row r) front || (b || list_any (same_row r) rs)) (same_itself r) ∙ always (list_any (same_row r) front)
+among_all front r rs = list_any-append (same_row r) front (r ∷ rs) ∙ ap (λ b. list_any (same_row r) front || (b || list_any (same_row r) rs)) (same_itself r) ∙ always (list_any (same_row r) front)
   where
     always : (b : Bool) → b || true ≡ true
     always true = refl

@@ -2,6 +2,7 @@
 //! to RETURNS.
 
 ghost use Rattle.std.specs.Prelude.{◌≡◌, not, filter, flat_map, Some, IfOk};
+ghost use Rattle.values.specs.declared.lot.LotId.{LotId as LotIdType};
 ghost use Rattle.commands.specs.Lists.{total};
 ghost use Rattle.commands.specs.Replies.{reply_text};
 ghost use Rattle.commands.specs.declared.replies.ReplyField.TheVariants.{Returned};
@@ -14,7 +15,7 @@ use crate::returning::{bins_with_returns, row_returned};
 use commands::{LeastRow, Listed, LotRow, MetaRow, ReplyField, Short, StagedRow, StockRow, reply};
 use label::BusinessDay;
 use row_rules::change_parts::{none_dropped, none_put, number_seen};
-use row_rules::list_parts::push_if;
+use row_rules::loops::{Test, failing, passing};
 use row_rules::plans::{DemandRows, ItemRows, SupplyRows, item_rows};
 use row_rules::replanning::{Replanned, replan_items};
 use row_rules::row_index::{RowsByText, by_text};
@@ -26,16 +27,58 @@ use values::{Gtin, Lot, LotId};
 
 // Lots that are out on a day, with the days that these rows ask for
 
-fn is_out(
-    lots: &RowsByText<'_, LotRow>,
+// The rows by which a lot is out, found by their lots and items.
+#[derive(Drop)]
+struct Outs<'a> {
+    lots: RowsByText<'a, LotRow>,
     day: BusinessDay,
-    asked: &RowsByText<'_, LeastRow>,
-    lot: &LotId,
-) -> bool
-    ensures { result ≡ is_out_given (rows_given lots.now) day (rows_given asked.now) lot.now }
+    asked: RowsByText<'a, LeastRow>,
+}
+
+// The rows, to be found so many times.
+fn outs_on<'a>(
+    alloc: Global,
+    slice: &'a Slice,
+    day: BusinessDay,
+    least: &'a [LeastRow],
+    times: usize,
+) -> Result<Outs<'a>, AllocError>
+    ensures { IfOk result (λ o. (l : LotIdType) → is_out_given (rows_given o.lots) o.day (rows_given o.asked) l ≡ is_out_lem slice.now day least.now l) }
 {
-    let from = earliest(day, asked.candidates(&lot.gtin), &lot.gtin);
-    is_past(find_row(lots.candidates(&lot.lot), lot), from)
+    let lots = by_text::<Lot, LotRow>(alloc, slice.rows.lots.as_slice(), times)?;
+    let asked = by_text::<Gtin, LeastRow>(alloc, least, times)?;
+    Ok(Outs { lots, day, asked })
+}
+
+impl Outs<'_> {
+    fn is_out(&self, lot: &LotId) -> bool
+        ensures { result ≡ is_out_given (rows_given self.now.lots) self.now.day (rows_given self.now.asked) lot.now }
+    {
+        let from = earliest(self.day, self.asked.candidates(&lot.gtin), &lot.gtin);
+        is_past(find_row(self.lots.candidates(&lot.lot), lot), from)
+    }
+}
+
+impl Test<StagedRow> for Outs<'_> {
+    ghost use Rattle.row_rules.specs.LookUps.{rows_given};
+    ghost use Rattle.lot_rules.specs.GivenOut.{is_out_given};
+
+    ghost test = { λ o r. is_out_given (rows_given o.lots) o.day (rows_given o.asked) r.lot };
+
+    fn passes(&self, row: &StagedRow) -> bool {
+        self.is_out(&row.lot)
+    }
+}
+
+impl Test<LotRow> for Outs<'_> {
+    ghost use Rattle.row_rules.specs.LookUps.{rows_given};
+    ghost use Rattle.lot_rules.specs.GivenOut.{is_out_given};
+
+    ghost test = { λ o k. is_out_given (rows_given o.lots) o.day (rows_given o.asked) k.lot };
+
+    fn passes(&self, row: &LotRow) -> bool {
+        self.is_out(&row.lot)
+    }
 }
 
 // Staged rows
@@ -49,26 +92,8 @@ fn staged_kept_on(
     ensures { IfOk result (λ v. v.items ≡ staged_kept_on_lem slice.now day least.now) }
 {
     let rows = slice.rows.staged.as_slice();
-    let lots = by_text::<Lot, LotRow>(alloc, slice.rows.lots.as_slice(), rows.len())?;
-    let asked = by_text::<Gtin, LeastRow>(alloc, least, rows.len())?;
-    rows_kept_on(alloc, &lots, rows, day, &asked)
-}
-
-fn rows_kept_on(
-    alloc: Global,
-    lots: &RowsByText<'_, LotRow>,
-    rows: &[StagedRow],
-    day: BusinessDay,
-    asked: &RowsByText<'_, LeastRow>,
-) -> Result<Vec<StagedRow>, AllocError>
-    ensures { IfOk result (λ v. v.items ≡ filter (λ r. not (is_out_given (rows_given lots.now) day (rows_given asked.now) r.lot)) rows.now) }
-{
-    let mut kept = Vec::new(alloc);
-    for row in rows {
-        let out = is_out(lots, day, asked, &row.lot);
-        push_if(&mut kept, !out, *row)?;
-    }
-    Ok(kept)
+    let outs = outs_on(alloc, slice, day, least, rows.len())?;
+    failing(alloc, rows, &outs)
 }
 
 fn staged_gone_on(
@@ -80,26 +105,8 @@ fn staged_gone_on(
     ensures { IfOk result (λ v. v.items ≡ staged_gone_on_lem slice.now day least.now) }
 {
     let rows = slice.rows.staged.as_slice();
-    let lots = by_text::<Lot, LotRow>(alloc, slice.rows.lots.as_slice(), rows.len())?;
-    let asked = by_text::<Gtin, LeastRow>(alloc, least, rows.len())?;
-    rows_gone_on(alloc, &lots, rows, day, &asked)
-}
-
-fn rows_gone_on(
-    alloc: Global,
-    lots: &RowsByText<'_, LotRow>,
-    rows: &[StagedRow],
-    day: BusinessDay,
-    asked: &RowsByText<'_, LeastRow>,
-) -> Result<Vec<StagedRow>, AllocError>
-    ensures { IfOk result (λ v. v.items ≡ filter (λ r. is_out_given (rows_given lots.now) day (rows_given asked.now) r.lot) rows.now) }
-{
-    let mut gone = Vec::new(alloc);
-    for row in rows {
-        let out = is_out(lots, day, asked, &row.lot);
-        push_if(&mut gone, out, *row)?;
-    }
-    Ok(gone)
+    let outs = outs_on(alloc, slice, day, least, rows.len())?;
+    passing(alloc, rows, &outs)
 }
 
 // Stock rows
@@ -114,26 +121,8 @@ fn lots_out(
     ensures { IfOk result (λ v. v.items ≡ filter (λ k. is_out_lem slice.now day least.now k.lot) slice.now.rows.lots) }
 {
     let rows = slice.rows.lots.as_slice();
-    let lots = by_text::<Lot, LotRow>(alloc, rows, rows.len())?;
-    let asked = by_text::<Gtin, LeastRow>(alloc, least, rows.len())?;
-    lots_out_of(alloc, &lots, rows, day, &asked)
-}
-
-fn lots_out_of(
-    alloc: Global,
-    lots: &RowsByText<'_, LotRow>,
-    rows: &[LotRow],
-    day: BusinessDay,
-    asked: &RowsByText<'_, LeastRow>,
-) -> Result<Vec<LotRow>, AllocError>
-    ensures { IfOk result (λ v. v.items ≡ filter (λ k. is_out_given (rows_given lots.now) day (rows_given asked.now) k.lot) rows.now) }
-{
-    let mut out = Vec::new(alloc);
-    for row in rows {
-        let past = is_out(lots, day, asked, &row.lot);
-        push_if(&mut out, past, *row)?;
-    }
-    Ok(out)
+    let outs = outs_on(alloc, slice, day, least, rows.len())?;
+    passing(alloc, rows, &outs)
 }
 
 // The rows in RETURNS of the lots that are out, where anything comes into it.
@@ -182,22 +171,24 @@ fn rows_besides(
     ensures { IfOk result (λ v. v.items ≡ filter (λ r. not (stands_in_lem others.now r)) rows.now) }
 {
     let of_lots = by_text::<Lot, StockRow>(alloc, others, rows.len())?;
-    rows_apart(alloc, rows, &of_lots)
+    failing(alloc, rows, &StandsIn { others: of_lots })
 }
 
-fn rows_apart(
-    alloc: Global,
-    rows: &[StockRow],
-    others: &RowsByText<'_, StockRow>,
-) -> Result<Vec<StockRow>, AllocError>
-    ensures { IfOk result (λ v. v.items ≡ filter (λ r. not (stands_in_lem (rows_given others.now r.lot.lot) r)) rows.now) }
-{
-    let mut kept = Vec::new(alloc);
-    for row in rows {
-        let there = has_row(others.candidates(&row.lot.lot), &(row.lot, row.bin));
-        push_if(&mut kept, !there, *row)?;
+// That one of the others stands under the key of a row.
+#[derive(Drop)]
+struct StandsIn<'a> {
+    others: RowsByText<'a, StockRow>,
+}
+
+impl Test<StockRow> for StandsIn<'_> {
+    ghost use Rattle.row_rules.specs.LookUps.{rows_given};
+    ghost use Rattle.lot_rules.specs.Expiring.{stands_in};
+
+    ghost test = { λ t r. stands_in (rows_given t.others r.lot.lot) r };
+
+    fn passes(&self, row: &StockRow) -> bool {
+        has_row(self.others.candidates(&row.lot.lot), &(row.lot, row.bin))
     }
-    Ok(kept)
 }
 
 // All stock rows after the act.

@@ -1,6 +1,6 @@
 //! Lots that are held, released and recalled.
 
-ghost use Rattle.std.specs.Prelude.{◌≡◌, map, IfOk};
+ghost use Rattle.std.specs.Prelude.{◌≡◌, IfOk};
 ghost use Rattle.machine.specs.Verdict.{first_refusal};
 ghost use Rattle.lot_rules.specs.DecidedHold.{release_seen, release_facts as release_facts_lem, release_changes, hold_seen, hold_changes, hold_replanned as hold_replanned_lem, recall_seen, recall_changes, recall_replanned as recall_replanned_lem, new_recall_row as new_recall_row_lem, recall_rows_after as recall_rows_after_lem, with_hold as with_hold_lem, lot_rows_with_hold as lot_rows_with_hold_lem, lot_put as lot_put_lem};
 
@@ -9,6 +9,7 @@ use commands::{Listed, LotRow, RecallRow, Refusal};
 use row_rules::change_parts::{number_seen, one, plain_reply};
 use row_rules::first_refusal::first_of;
 use row_rules::goods_seen::{lot_seen, sees_hold, sees_item, sees_recall};
+use row_rules::loops::{Make, each_made};
 use row_rules::replanning::Replanned;
 use row_rules::same::Same;
 use row_rules::stock::sees_lot;
@@ -44,22 +45,25 @@ fn lot_rows_with_hold(
 ) -> Result<Vec<LotRow>, AllocError>
     ensures { IfOk result (λ v. v.items ≡ lot_rows_with_hold_lem slice.now lot.now held) }
 {
-    lots_with_hold(alloc, slice.rows.lots.as_slice(), lot, held)
+    let with = WithHold { lot: *lot, held };
+    each_made(alloc, slice.rows.lots.as_slice(), &with)
 }
 
-fn lots_with_hold(
-    alloc: Global,
-    rows: &[LotRow],
-    lot: &LotId,
+// A lot that is held or not.
+#[derive(Clone, Copy)]
+struct WithHold {
+    lot: LotId,
     held: bool,
-) -> Result<Vec<LotRow>, AllocError>
-    ensures { IfOk result (λ v. v.items ≡ map (with_hold_lem lot.now held) rows.now) }
-{
-    let mut after = Vec::new(alloc);
-    for row in rows {
-        after.push(with_hold(lot, held, *row))?;
+}
+
+impl Make<LotRow, LotRow> for WithHold {
+    ghost use Rattle.lot_rules.specs.DecidedHold.{with_hold};
+
+    ghost made = { λ w k. with_hold w.lot w.held k };
+
+    fn make(&self, _: Global, row: &LotRow) -> Result<LotRow, AllocError> {
+        Ok(with_hold(&self.lot, self.held, *row))
     }
-    Ok(after)
 }
 
 // The row of the lot, if it is known, held or not.

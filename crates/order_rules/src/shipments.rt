@@ -4,8 +4,7 @@ ghost use Rattle.std.specs.Prelude.{◌≡◌, ◌-◌, map, min, pos, neg_ℤ, 
 ghost use Rattle.std.specs.List.{list_any};
 ghost use Rattle.commands.specs.declared.limits.TheConstants.{UNITS_MAX};
 ghost use Rattle.machine.specs.Verdict.{first_refusal};
-ghost use Rattle.row_rules.specs.Seen.{none_put, lot_units as lot_units_lem};
-ghost use Rattle.row_rules.specs.LookUps.{rows_given};
+ghost use Rattle.row_rules.specs.Seen.{none_put};
 ghost use Rattle.order_rules.specs.DecidedShip.{ship_seen, ship_changes, shipment_seen as shipment_seen_lem, meta_shipped as meta_shipped_lem, rows_shipped as rows_shipped_lem, lines_shipped as lines_shipped_lem, line_shipped as line_shipped_lem, lacks_units as lacks_units_lem, order_put as order_put_lem, done_row as done_row_lem, shipment_put as shipment_put_lem, shipline as shipline_lem, ship_card as ship_card_lem, ship_reply as ship_reply_lem};
 
 use commands::limits::{CARD_NOTE_MAX, UNITS_MAX};
@@ -17,6 +16,7 @@ use row_rules::cards::lot_units;
 use row_rules::change_parts::{none_dropped, none_put, number_seen, one};
 use row_rules::first_refusal::first_of;
 use row_rules::list_parts::push_if;
+use row_rules::loops::{Make, each_made};
 use row_rules::orders_seen::{lines_seen, order_row_seen, sees_open, sees_order, staged_for_seen};
 use row_rules::row_index::{RowsByText, by_text};
 use row_rules::row_search::{rows_with, units_with};
@@ -127,22 +127,24 @@ fn ship_lines(
     ensures { IfOk result (λ v. v.items ≡ map (line_shipped_lem staged.now) rows.now) }
 {
     let of_items = by_text::<Gtin, StagedRow>(alloc, staged, rows.len())?;
-    ship_found(alloc, rows, &of_items)
+    each_made(alloc, rows, &LineShipped { staged: of_items })
 }
 
-fn ship_found(
-    alloc: Global,
-    rows: &[LineRow],
-    staged: &RowsByText<'_, StagedRow>,
-) -> Result<Vec<LineRow>, AllocError>
-    ensures { IfOk result (λ v. v.items ≡ map (λ r. line_shipped_lem (rows_given staged.now r.gtin) r) rows.now) }
-{
-    let mut shipped = Vec::new(alloc);
-    for row in rows {
-        let own = staged.candidates(&row.gtin);
-        shipped.push(line_shipped(own, row))?;
+// A line with what is given as staged of its item.
+#[derive(Drop)]
+struct LineShipped<'a> {
+    staged: RowsByText<'a, StagedRow>,
+}
+
+impl Make<LineRow, LineRow> for LineShipped<'_> {
+    ghost use Rattle.row_rules.specs.LookUps.{rows_given};
+    ghost use Rattle.order_rules.specs.DecidedShip.{line_shipped};
+
+    ghost made = { λ m r. line_shipped (rows_given m.staged r.gtin) r };
+
+    fn make(&self, _: Global, row: &LineRow) -> Result<LineRow, AllocError> {
+        Ok(line_shipped(self.staged.candidates(&row.gtin), row))
     }
-    Ok(shipped)
 }
 
 // A line with what was staged of its item.
@@ -213,15 +215,27 @@ fn shipment_put(slice: &Slice, order: &Name) -> ShipmentRow
 fn shiplines(alloc: Global, number: u64, rows: &[StagedRow]) -> Result<Vec<ShiplineRow>, AllocError>
     ensures { IfOk result (λ v. v.items ≡ map (shipline_lem number) rows.now) }
 {
-    let mut lines = Vec::new(alloc);
-    for row in rows {
-        lines.push(ShiplineRow {
-            number,
+    each_made(alloc, rows, &LineOf { number })
+}
+
+// A line of the shipment of this number.
+#[derive(Clone, Copy)]
+struct LineOf {
+    number: u64,
+}
+
+impl Make<StagedRow, ShiplineRow> for LineOf {
+    ghost use Rattle.order_rules.specs.DecidedShip.{shipline};
+
+    ghost made = { λ m r. shipline m.number r };
+
+    fn make(&self, _: Global, row: &StagedRow) -> Result<ShiplineRow, AllocError> {
+        Ok(ShiplineRow {
+            number: self.number,
             lot: row.lot,
             qty: row.qty,
-        })?;
+        })
     }
-    Ok(lines)
 }
 
 fn ship_cards(alloc: Global, slice: &Slice, rows: &[StagedRow]) -> Result<Vec<CardRow>, AllocError>
@@ -230,25 +244,36 @@ fn ship_cards(alloc: Global, slice: &Slice, rows: &[StagedRow]) -> Result<Vec<Ca
     let all = &slice.rows;
     let stock = by_text::<Lot, StockRow>(alloc, all.stock.as_slice(), rows.len())?;
     let staged = by_text::<Lot, StagedRow>(alloc, all.staged.as_slice(), rows.len())?;
-    cards_given(alloc, slice, &stock, &staged, rows)
+    let card = CardShipped {
+        slice,
+        stock,
+        staged,
+    };
+    each_made(alloc, rows, &card)
 }
 
-fn cards_given(
-    alloc: Global,
-    slice: &Slice,
-    stock: &RowsByText<'_, StockRow>,
-    staged: &RowsByText<'_, StagedRow>,
-    rows: &[StagedRow],
-) -> Result<Vec<CardRow>, AllocError>
-    ensures { IfOk result (λ v. v.items ≡ map (λ r. record (ship_card_lem slice.now r) { rest = lot_units_lem r.lot (rows_given stock.now r.lot.lot) (rows_given staged.now r.lot.lot) - r.qty }) rows.now) }
-{
-    let mut cards = Vec::new(alloc);
-    for row in rows {
+// The card line of what is shipped of a lot, of which these rows are given.
+#[derive(Drop)]
+struct CardShipped<'a> {
+    slice: &'a Slice,
+    stock: RowsByText<'a, StockRow>,
+    staged: RowsByText<'a, StagedRow>,
+}
+
+impl Make<StagedRow, CardRow> for CardShipped<'_> {
+    ghost use Rattle.std.specs.Prelude.{◌-◌};
+    ghost use Rattle.row_rules.specs.Seen.{lot_units};
+    ghost use Rattle.row_rules.specs.LookUps.{rows_given};
+    ghost use Rattle.order_rules.specs.DecidedShip.{ship_card};
+
+    ghost made = { λ m r. record (ship_card m.slice.now r) { rest = lot_units r.lot (rows_given m.stock r.lot.lot) (rows_given m.staged r.lot.lot) - r.qty } };
+
+    fn make(&self, _: Global, row: &StagedRow) -> Result<CardRow, AllocError> {
         let lot = &row.lot;
-        let units = lot_units(lot, stock.candidates(&lot.lot), staged.candidates(&lot.lot));
-        cards.push(ship_card(slice, row, units))?;
+        let in_bins = self.stock.candidates(&lot.lot);
+        let on_stages = self.staged.candidates(&lot.lot);
+        Ok(ship_card(self.slice, row, lot_units(lot, in_bins, on_stages)))
     }
-    Ok(cards)
 }
 
 // The card line of what is shipped of a lot, where the lot has so many units before it.

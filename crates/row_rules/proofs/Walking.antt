@@ -36,7 +36,7 @@ pub record IsKept {X : Type 0} (test : X → Bool) (xs : List X) (i : ℕ) (out 
 pub kept_none : {X : Type 0} (test : X → Bool) (xs : List X) (out : List X) → out ≡ [] → IsKept test xs 0 out
 kept_none test xs out e = record { so_far = ap (λ ys. ys ++ filter test xs) e }
 
-kept_one : {X : Type 0} (b : Bool) (x : X) (rest out : List X) → (out ++ (if b then x ∷ [] else [])) ++ rest ≡ out ++ (if b then x ∷ rest else rest)
+pub kept_one : {X : Type 0} (b : Bool) (x : X) (rest out : List X) → (out ++ (if b then x ∷ [] else [])) ++ rest ≡ out ++ (if b then x ∷ rest else rest)
 kept_one true x rest out = append_assoc out (x ∷ []) rest
 kept_one false x rest out = ap (λ ys. ys ++ rest) (append_none out)
 

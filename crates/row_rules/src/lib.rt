@@ -11,6 +11,7 @@ pub mod having;
 pub mod in_order;
 pub mod indexed;
 pub mod list_parts;
+pub mod loops;
 pub mod lots;
 pub mod open_lines;
 pub mod orders_seen;

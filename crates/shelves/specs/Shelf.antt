@@ -4,7 +4,7 @@ use Rattle.std.specs.List.{cons_option, list_any}
 use Rattle.values.specs.declared.lot.LotId.{LotId}
 use Rattle.commands.specs.declared.rows.StockRow.{StockRow}
 use Rattle.commands.specs.declared.rows.StagedRow.{StagedRow}
-use Rattle.machine.specs.Postings.{Place, Supplier, InBin, Stage, Shipped, WriteOff, Posting}
+use Rattle.machine.specs.Postings.{Place, InBin, Stage, Posting}
 use Rattle.machine.specs.KeyedRows.{LotBin, OrderLot, same_cell, same_share}
 use Rattle.row_rules.specs.Seen.{capped}
 

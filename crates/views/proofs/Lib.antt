@@ -4,6 +4,7 @@ pub mod Lists
 pub mod Ranks
 pub mod Members
 pub mod LotsShown
+pub mod LotsKept
 pub mod QuantitiesShown
 pub mod BinsShown
 pub mod ShortShown

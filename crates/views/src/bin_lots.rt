@@ -1,6 +1,6 @@
 //! What is shown of the lots in a bin.
 
-ghost use Rattle.std.specs.Prelude.{◌≡◌, ◌+◌, ◌++◌, [], map, filter, take, IfOk, OnOk, Some, ℤ, ℕ, List, Option, length};
+ghost use Rattle.std.specs.Prelude.{◌≡◌, ◌+◌, ◌++◌, [], map, take, IfOk, OnOk, Some, ℤ, ℕ, List, Option, length};
 ghost use Rattle.std.specs.List.{cons_option};
 ghost use Rattle.commands.specs.declared.command.NewBin.{NewBin};
 ghost use Rattle.machine.specs.Acts.{Act};
@@ -8,7 +8,7 @@ ghost use Rattle.machine.specs.Once.{IsHistory};
 ghost use Rattle.machine.specs.Standing.{KnownLot, today};
 ghost use Rattle.overviews.specs.Pages.{lots_in_bin, bin_view as bin_view_lem};
 ghost use Rattle.views.specs.GivenExpiring.{all_found};
-ghost use Rattle.views.specs.GivenBin.{is_in_bin_row, is_in_bin_given as is_in_bin_given_lem, bin_and_more, bin_lot_seen, bin_lot_found, bin_seen};
+ghost use Rattle.views.specs.GivenBin.{is_in_bin_row, bin_and_more, bin_lot_seen, bin_lot_found, bin_seen};
 ghost use Rattle.views.specs.ShownExpiring.{known_row, IsLotSeenLast};
 ghost use Rattle.views.specs.ShownBin.{known_bin, AreInBin, AreOfBinPage};
 
@@ -21,7 +21,7 @@ use commands::{BinRow, Listed, LotRow, StockRow};
 use label::BusinessDay;
 use overviews::{BinLot, BinView, PAGE_MAX};
 use row_rules::in_order::Order;
-use row_rules::list_parts::push_if;
+use row_rules::loops::{Test, passing};
 use row_rules::row_index::{RowsByText, by_text};
 use row_rules::row_search::find_row;
 use row_rules::status::lot_status;
@@ -53,32 +53,27 @@ fn is_in_bin(bin: &Name, seen: &Option<LotRow>, stock: &[StockRow], lot: &LotRow
     is_behind::<ByItem, LotRow>(seen, lot) && units_among(stock, &lot.lot, bin) != 0
 }
 
-fn is_in_bin_given(
-    bin: &Name,
-    seen: &Option<LotRow>,
-    stock: &RowsByText<'_, StockRow>,
-    lot: &LotRow,
-) -> bool
-    ensures { result ≡ is_in_bin_given_lem bin.now seen.now stock.now lot.now }
-{
-    is_in_bin(bin, seen, stock.candidates(&lot.lot.lot), lot)
+// That a lot is shown of the bin.
+#[derive(Drop)]
+struct IsInBin<'a> {
+    bin: Name,
+    seen: Option<LotRow>,
+    stock: RowsByText<'a, StockRow>,
 }
 
-fn lots_given(
-    alloc: Global,
-    bin: &Name,
-    seen: &Option<LotRow>,
-    stock: &RowsByText<'_, StockRow>,
-    lots: &[LotRow],
-) -> Result<Vec<LotRow>, AllocError>
-    ensures { IfOk result (λ v. v.items ≡ filter (is_in_bin_given_lem bin.now seen.now stock.now) lots.now) }
-{
-    let mut in_bin = Vec::new(alloc);
-    for lot in lots {
-        let wanted = is_in_bin_given(bin, seen, stock, lot);
-        push_if(&mut in_bin, wanted, *lot)?;
+impl Test<LotRow> for IsInBin<'_> {
+    ghost use Rattle.views.specs.GivenBin.{is_in_bin_given};
+
+    ghost test = { λ t k. is_in_bin_given t.bin t.seen t.stock k };
+
+    fn passes(&self, lot: &LotRow) -> bool {
+        is_in_bin(
+            &self.bin,
+            &self.seen,
+            self.stock.candidates(&lot.lot.lot),
+            lot,
+        )
     }
-    Ok(in_bin)
 }
 
 /// The lots with units in the bin that stand behind the one that was seen last, by item, expiry and first receipt: as many as
@@ -95,7 +90,12 @@ pub fn bin_page(
         → IfOk result (λ v. v.items ≡ map (known_row acts) (take (PAGE_MAX + 1) (lots_in_bin first acts bin.now last))) }
 {
     let given = by_text::<Lot, StockRow>(alloc, stock, lots.len())?;
-    let in_bin = lots_given(alloc, bin, &seen, &given, lots)?;
+    let by = IsInBin {
+        bin: *bin,
+        seen,
+        stock: given,
+    };
+    let in_bin = passing(alloc, lots, &by)?;
     first_in_order::<ByItem, LotRow>(alloc, in_bin.as_slice(), PAGE_MAX + 1)
 }
 

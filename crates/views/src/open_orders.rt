@@ -8,7 +8,7 @@ ghost use Rattle.machine.specs.Standing.{Placed};
 ghost use Rattle.row_rules.specs.LookUps.{rows_given};
 ghost use Rattle.overviews.specs.Pages.{open_orders, open_orders_view as open_orders_view_lem};
 ghost use Rattle.views.specs.ShownOpen.{AreOpen, AreOfPage, IsSeenLast, served_order};
-ghost use Rattle.views.specs.GivenOpen.{served as served_lem, served_given as served_given_lem, is_listed as is_listed_lem, page_and_more, line_units as line_units_lem, no_units as no_units_lem, with_units as with_units_lem, order_units as order_units_lem, class_of as class_of_lem, open_order_told, open_order_given, open_orders_told};
+ghost use Rattle.views.specs.GivenOpen.{served as served_lem, served_given as served_given_lem, is_listed as is_listed_lem, page_and_more, line_units as line_units_lem, no_units as no_units_lem, with_units as with_units_lem, order_units as order_units_lem, class_of as class_of_lem, open_order_told, open_orders_told};
 
 use crate::line_short::short_by;
 use crate::pages::{first_in_order, is_behind, page_of};
@@ -17,6 +17,7 @@ use overviews::{OpenOrder, OpenOrdersView, PAGE_MAX};
 use row_rules::demands::is_open;
 use row_rules::having::Has;
 use row_rules::in_order::Order;
+use row_rules::loops::{Make, each_made};
 use row_rules::row_index::{RowsByText, by_text};
 use row_rules::row_search::{has_row, units_with};
 use rules::Rows;
@@ -238,23 +239,26 @@ fn open_order(
     }
 }
 
-fn orders_given(
-    alloc: Global,
-    lines: &RowsByText<'_, LineRow>,
-    staged: &RowsByText<'_, StagedRow>,
-    reserved: &RowsByText<'_, ReservedRow>,
-    orders: &[ServedOrder],
-) -> Result<Vec<OpenOrder>, AllocError>
-    ensures { IfOk result (λ v. v.items ≡ map (open_order_given (rows_given lines.now) (rows_given staged.now) (rows_given reserved.now)) orders.now) }
-{
-    let mut shown = Vec::new(alloc);
-    for order in orders {
-        let own_lines = lines.candidates(&order.row.order);
-        let own_staged = staged.candidates(&order.row.order);
-        let own_reserved = reserved.candidates(&order.row.order);
-        shown.push(open_order(own_lines, own_staged, own_reserved, order))?;
+// An open order, of which these rows are given.
+#[derive(Drop)]
+struct OrderShown<'a> {
+    lines: RowsByText<'a, LineRow>,
+    staged: RowsByText<'a, StagedRow>,
+    reserved: RowsByText<'a, ReservedRow>,
+}
+
+impl Make<ServedOrder, OpenOrder> for OrderShown<'_> {
+    ghost use Rattle.row_rules.specs.LookUps.{rows_given};
+    ghost use Rattle.views.specs.GivenOpen.{open_order_given};
+
+    ghost made = { λ m o. open_order_given (rows_given m.lines) (rows_given m.staged) (rows_given m.reserved) o };
+
+    fn make(&self, _: Global, order: &ServedOrder) -> Result<OpenOrder, AllocError> {
+        let name = &order.row.order;
+        let lines = self.lines.candidates(name);
+        let staged = self.staged.candidates(name);
+        Ok(open_order(lines, staged, self.reserved.candidates(name), order))
     }
-    Ok(shown)
 }
 
 fn orders_shown(
@@ -269,7 +273,12 @@ fn orders_shown(
     let lines = by_text::<Name, LineRow>(alloc, lines, orders.len())?;
     let staged = by_text::<Name, StagedRow>(alloc, staged, orders.len())?;
     let reserved = by_text::<Name, ReservedRow>(alloc, reserved, orders.len())?;
-    orders_given(alloc, &lines, &staged, &reserved, orders)
+    let shown = OrderShown {
+        lines,
+        staged,
+        reserved,
+    };
+    each_made(alloc, orders, &shown)
 }
 
 /// What is shown of a page of open orders, which has one more where they go on (`open_page`), after so many acts. The rows

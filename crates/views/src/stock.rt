@@ -17,6 +17,7 @@ use commands::{
     ItemRow, Listed, LotRow, LotView, RecallRow, ReservedRow, StagedRow, StockRow, StockView,
 };
 use label::BusinessDay;
+use row_rules::loops::{Make, each_made};
 use row_rules::row_index::{RowsByText, by_text};
 use row_rules::row_search::units_with;
 use row_rules::status::lot_status;
@@ -55,7 +56,7 @@ fn lot_views(
     ensures { IfOk result (λ v. v.items ≡ map (lot_seen day least rows.now) lots.now) }
 {
     let shown = lots_shown(alloc, rows, lots.len())?;
-    views_found(alloc, day, least, &shown, lots)
+    each_made(alloc, lots, &OnDay { day, least, shown })
 }
 
 /// The rows by which lots are shown, found by their lots.
@@ -87,21 +88,22 @@ pub fn lots_shown<'a>(
     })
 }
 
-fn views_found(
-    alloc: Global,
+// The view of a lot on a day.
+#[derive(Drop)]
+struct OnDay<'a> {
     day: BusinessDay,
     least: LeastDays,
-    shown: &LotsShown<'_>,
-    lots: &[LotRow],
-) -> Result<Vec<LotView>, AllocError>
-    ensures { IfOk result (λ v. v.items ≡ map (lot_found day least shown.now) lots.now) }
-{
-    let mut views = Vec::new(alloc);
-    for lot in lots {
-        let view = lot_view(alloc, day, least, shown, lot)?;
-        views.push(view)?;
+    shown: LotsShown<'a>,
+}
+
+impl Make<LotRow, LotView> for OnDay<'_> {
+    ghost use Rattle.views.specs.GivenStock.{lot_found};
+
+    ghost made = { λ m k. lot_found m.day m.least m.shown k };
+
+    fn make(&self, alloc: Global, lot: &LotRow) -> Result<LotView, AllocError> {
+        lot_view(alloc, self.day, self.least, &self.shown, lot)
     }
-    Ok(views)
 }
 
 /// What is shown of the stock of a lot.

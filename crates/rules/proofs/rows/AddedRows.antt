@@ -20,13 +20,6 @@ find_appended test (x ∷ xs) ys = elim (test x) as (λ b. (if b then Some x els
   | false ↦ find_appended test xs ys
 ]
 
-pub any_appended : {X : Type 0} (test : X → Bool) (xs ys : List X) → list_any test (xs ++ ys) ≡ list_any test xs || list_any test ys
-any_appended test [] ys = refl
-any_appended test (x ∷ xs) ys = elim (test x) as (λ b. b || list_any test (xs ++ ys) ≡ (b || list_any test xs) || list_any test ys) [
-  | true ↦ refl
-  | false ↦ any_appended test xs ys
-]
-
 pub not_found : {X : Type 0} (test : X → Bool) (xs : List X) → list_any test xs ≡ false → find test xs ≡ None
 not_found test [] e = refl
 not_found test (x ∷ xs) e = elim (test x) as (λ b. b || list_any test xs ≡ false → (if b then Some x else find test xs) ≡ None) [

@@ -6,10 +6,6 @@ use Rattle.commands.specs.Lists.{total}
 use Rattle.machine.specs.KeyedRows.{no_two}
 use Rattle.machine.proofs.Tests.{and_both, or_none, not_true}
 
-pub same_totals : {X : Type 0} (f g : X → ℕ) → ((x : X) → f x ≡ g x) → (xs : List X) → total f xs ≡ total g xs
-same_totals f g same [] = refl
-same_totals f g same (x ∷ xs) = λ i. same x i + same_totals f g same xs i
-
 -- Of rows apart at most one passes a test that tells their key
 
 module _ {X : Type 0} (same : X → X → Bool) (t : X → Bool) (tells : (x y : X) → t x ≡ true → t y ≡ true → same x y ≡ true) where

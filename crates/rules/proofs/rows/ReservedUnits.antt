@@ -17,7 +17,7 @@ use Rattle.machine.specs.Standing.{KnownLot, Placed, lots, lots_of, lot_known, o
 use Rattle.machine.specs.Planning.{plan, demands, supplies, supply_of, item_postings, goes_before, shippable_lots, reserved, reserved_of}
 use Rattle.machine.specs.Tables.{if_any, reserved_row}
 use Rattle.machine.specs.KeyedRows.{AreRows, AreOwn, OrderLot, same_share, no_two}
-use Rattle.machine.proofs.Numbers.{equal_turned, unequal_above}
+use Rattle.machine.proofs.Numbers.{equal_turned, unequal_above, total_zero}
 use Rattle.machine.proofs.Tests.{and_both, and_false, is_zero, not_true, or_first, or_later, same_text_is, is_lot_is, is_lot_refl, is_lot_turned}
 use Rattle.machine.proofs.Apart.{AreApart, AllFound, all_found, any_found, apart-filter}
 use Rattle.machine.proofs.histories.Falling.{AllBelow, AreFalling}
@@ -67,10 +67,6 @@ some_of : {X : Type 0} (x : Option X) → is_some x ≡ true → (y : X) × (x �
 some_of None e = let f : false ≡ true = e in cc
 some_of (Some y) e = (y, refl)
 
-nothing_each : {X : Type 0} (xs : List X) → total (λ (x : X). 0) xs ≡ 0
-nothing_each [] = refl
-nothing_each (x ∷ xs) = omega (arith, nothing_each xs)
-
 -- What the plan reserves for a booking, lot by lot
 
 module _ (first : ℤ) (acts : List Act) (g : List ℕ) (b : ℕ) where
@@ -96,7 +92,7 @@ module _ (first : ℤ) (acts : List Act) (g : List ℕ) (b : ℕ) where
       let x = some_of (find (λ (k : KnownLot). r.lot == k.came) (lots_of acts g)) (any_found (λ (k : KnownLot). r.lot == k.came) (lots_of acts g) ∙ h) in
       picked (λ m n. m == n) eqb-true equal_turned (λ (k : KnownLot). k.came) r.lot (λ k. r.qty) (lots_of acts g) x.0
       (once_apart (λ m n. m == n) eqb-true equal_turned (λ (k : KnownLot). k.came) (lots_of acts g) (apart-filter (λ (j k : KnownLot). j.came == k.came) (λ (k : KnownLot). of_item g k.lot) (lots acts) (numbers_apart (lots acts) (lots_numbered acts).falling))) x.1
-  one_lot r h false = nothing_each (lots_of acts g)
+  one_lot r h false = total_zero (lots_of acts g)
 
   each_row : (rows : List Row) → AllByRecursion (λ (r : Row). IsThere r.lot) rows
       → total (λ (r : Row). total (λ (k : KnownLot). if (r.booking == b) && (r.lot == k.came) then r.qty else 0) (lots_of acts g)) rows ≡ total (λ (r : Row). if r.booking == b then r.qty else 0) rows

@@ -4,7 +4,7 @@ use Rattle.std.specs.Prelude.{◌==◌, ◌||◌, nat_lt, if◌then◌else◌, �
 use Rattle.std.specs.List.{list_any}
 use Rattle.std.proofs.lemmas.Bool.{eqb-true}
 use Rattle.std.proofs.lemmas.Int.{ints}
-use borrow.Author.Tests.{ltb-false, le-ltb}
+use borrow.Author.Tests.{ltb-false}
 use Rattle.values.specs.Values.{same_text}
 use Rattle.values.specs.declared.lot.LotId.{LotId}
 use Rattle.commands.specs.Lists.{total}
@@ -30,7 +30,11 @@ use Rattle.machine.specs.KeyedRows.{AreRows, AreOwn, no_two, same_cell}
 use Rattle.row_rules.specs.Seen.{capped, has_recall}
 use Rattle.row_rules.specs.Status.{may_ship}
 use Rattle.row_rules.specs.Plans.{is_store_found, store_seen, is_usable, goes_first, usable_lots, supply_seen, supplies_seen}
-use Rattle.machine.proofs.Numbers.{unequal_above, later_than}
+use Rattle.row_rules.specs.LookUps.{IsOrder as IsEarlier}
+use Rattle.row_rules.proofs.ByBoth.{never_itself, goes_on, none_of, both_either}
+use Rattle.row_rules.proofs.InOrder.{ranks_order}
+use Rattle.row_rules.proofs.LookingUp.{total_kept}
+use Rattle.machine.proofs.Numbers.{unequal_above}
 use Rattle.machine.proofs.Tests.{and_both, or_none, not_true, same_text_refl, same_text_is, is_lot_is, is_lot_refl, is_lot_turned, or_later}
 use Rattle.machine.proofs.Apart.{AllFound, any_found}
 use Rattle.machine.proofs.histories.Falling.{AllBelow, AreFalling}
@@ -41,7 +45,7 @@ use Rattle.machine.proofs.histories.Lots.{same_known, lots_apart, lots_found, lo
 use Rattle.machine.proofs.histories.UnitsLimit.{units_within_limit}
 use Rattle.machine.proofs.histories.PlaceRows.{stock_holds, bin_cells}
 use Rattle.rules.proofs.rows.Telling.{rows_tell, some_of_mapped, totals_swapped, none_picked}
-use Rattle.rules.proofs.rows.Ordering.{AllBehind, AreRising, AllOrdered, AreOrdered, rising_inserted, rising_ordered, ordered_kept, total_inserted, total_ordered, total_filter, total_map}
+use Rattle.rules.proofs.rows.Ordering.{AllBehind, AreRising, AllOrdered, AreOrdered, rising_inserted, rising_ordered, ordered_kept, total_inserted, total_ordered, total_map}
 use Rattle.rules.proofs.rows.SliceTells.{some_mapped}
 use Rattle.rules.proofs.rows.DemandsTold.{same_total, either_way}
 
@@ -78,59 +82,17 @@ ranks_before a b = int_lt a.expiry b.expiry || (not (int_lt b.expiry a.expiry) &
 abbrev ranks_same : Rank → Rank → Bool
 ranks_same a b = not (ranks_before a b) && not (ranks_before b a)
 
-lt_further : (a b c : ℤ) → int_lt a b ≡ true → int_lt b c ≡ true → int_lt a c ≡ true
-lt_further a b c e f = grind (arith, ints)
-
-lt_up_to : (a b c : ℤ) → int_lt a b ≡ true → int_lt c b ≡ false → int_lt a c ≡ true
-lt_up_to a b c e f = grind (arith, ints)
-
-up_to_lt : (a b c : ℤ) → int_lt b a ≡ false → int_lt b c ≡ true → int_lt a c ≡ true
-up_to_lt a b c e f = grind (arith, ints)
-
-up_to_further : (a b c : ℤ) → int_lt b a ≡ false → int_lt c b ≡ false → int_lt c a ≡ false
-up_to_further a b c e f = grind (arith, ints)
-
 neither_lt : (a b : ℤ) → int_lt a b ≡ false → int_lt b a ≡ false → a ≡ b
 neither_lt a b e f = grind (arith, ints)
-
-not_lt_itself : (a : ℤ) → int_lt a a ≡ false
-not_lt_itself a = grind (arith, ints)
-
-not_later_itself : (a : ℕ) → nat_lt a a ≡ false
-not_later_itself a = le-ltb a a (omega arith)
 
 either_numbers : (a b : ℕ) → nat_lt a b ≡ false → nat_lt b a ≡ false → a ≡ b
 either_numbers a b e f = let h = ltb-false a b e in let k = ltb-false b a f in omega arith
 
-second_of : (p q x : Bool) → p || (not q && x) ≡ true → p ≡ false → (q ≡ false) × (x ≡ true)
-second_of true q x e f = cc
-second_of false true x e f = let g : false ≡ true = e in cc
-second_of false false x e f = (refl, e)
-
-by_second : (p q x : Bool) → q ≡ false → x ≡ true → p || (not q && x) ≡ true
-by_second true q x e f = refl
-by_second false q x e f = (λ i. not (e i) && f i)
-
-by_first : (p q x : Bool) → p ≡ true → p || (not q && x) ≡ true
-by_first p q x e = ap (λ t. t || (not q && x)) e
-
-neither_of : (p q x : Bool) → p || (not q && x) ≡ false → (p ≡ false) × (q ≡ false → x ≡ false)
-neither_of true q x e = let f : true ≡ false = e in cc
-neither_of false true x e = (refl, λ h. cc)
-neither_of false false x e = (refl, λ h. e)
+ranks : IsEarlier ranks_before
+ranks = ranks_order (λ (a : Rank). a.expiry) (λ (a : Rank). a.came)
 
 rank_further : (a b c : Rank) → ranks_before a b ≡ true → ranks_before b c ≡ true → ranks_before a c ≡ true
-rank_further a b c h k =
-    elim (int_lt a.expiry b.expiry) as (λ p. int_lt a.expiry b.expiry ≡ p → ranks_before a c ≡ true) [
-      | true ↦ λ e. by_first (int_lt a.expiry c.expiry) (int_lt c.expiry a.expiry) (nat_lt a.came c.came) (elim (int_lt b.expiry c.expiry) as (λ q. int_lt b.expiry c.expiry ≡ q → int_lt a.expiry c.expiry ≡ true) [
-        | true ↦ λ f. lt_further a.expiry b.expiry c.expiry e f
-        | false ↦ λ f. lt_up_to a.expiry b.expiry c.expiry e (second_of _ _ _ k f).0
-      ] refl)
-      | false ↦ λ e. elim (int_lt b.expiry c.expiry) as (λ q. int_lt b.expiry c.expiry ≡ q → ranks_before a c ≡ true) [
-        | true ↦ λ f. by_first (int_lt a.expiry c.expiry) (int_lt c.expiry a.expiry) (nat_lt a.came c.came) (up_to_lt a.expiry b.expiry c.expiry (second_of _ _ _ h e).0 f)
-        | false ↦ λ f. by_second _ _ _ (up_to_further a.expiry b.expiry c.expiry (second_of _ _ _ h e).0 (second_of _ _ _ k f).0) (later_than a.came b.came c.came (second_of _ _ _ h e).1 (second_of _ _ _ k f).1)
-      ] refl
-    ] refl
+rank_further = goes_on ranks_before ranks
 
 rank_order : IsOrder ranks_before ranks_same
 rank_order = record {
@@ -138,13 +100,11 @@ rank_order = record {
   apart = λ a b h. ap (λ t. not t && not (ranks_before b a)) h;
   apart_back = λ a b h. turned (ranks_before b a) (ranks_before a b) h;
   further = rank_further;
-  one = λ a b h k. one a b (neither_of _ _ _ h) (neither_of _ _ _ k);
+  one = λ a b h k. one a b (none_of _ _ _ h) (none_of _ _ _ k);
 }
   where
     itself : (a : Rank) → ranks_same a a ≡ true
-    itself a =
-        let none : ranks_before a a ≡ false = (λ i. not_lt_itself a.expiry i || (not (not_lt_itself a.expiry i) && not_later_itself a.came i)) in
-        (λ i. not (none i) && not (none i))
+    itself a = let none = never_itself ranks_before ranks a in (λ i. not (none i) && not (none i))
 
     turned : (x y : Bool) → y ≡ true → not x && not y ≡ false
     turned true y e = refl
@@ -158,14 +118,7 @@ rank_order = record {
         λ i. record { expiry = e i; came = n i }
 
 either_rank : (a b : Rank) → (a.came == b.came) ≡ false → (ranks_before a b ≡ false → ranks_before b a ≡ true) × (ranks_before b a ≡ false → ranks_before a b ≡ true)
-either_rank a b e =
-    let two = either_way a.came b.came e in
-    (way (int_lt a.expiry b.expiry) (int_lt b.expiry a.expiry) (nat_lt a.came b.came) (nat_lt b.came a.came) two.0, way (int_lt b.expiry a.expiry) (int_lt a.expiry b.expiry) (nat_lt b.came a.came) (nat_lt a.came b.came) two.1)
-  where
-    way : (p q x y : Bool) → (x ≡ false → y ≡ true) → p || (not q && x) ≡ false → q || (not p && y) ≡ true
-    way true q x y f h = let g : true ≡ false = h in cc
-    way false true x y f h = refl
-    way false false x y f h = f h
+either_rank a b e = both_either (λ (x y : Rank). int_lt x.expiry y.expiry) (λ (x y : Rank). nat_lt x.came y.came) a b (λ _ _. either_way a.came b.came e)
 
 -- Lists of ranked lots
 
@@ -409,9 +362,9 @@ module _ (first : ℤ) (acts : List Act) (history : IsHistory first acts) (g : L
       let f : Lot → ℕ = λ x. if ranks_same r x.rank then x.avail else 0 in
       same_total f seen_list ∙ total_map f (as_lot row_rank row_avail) (usable_lots g from recall_rows lot_rows)
       ∙ total_inserted goes_first (λ k. f (as_lot row_rank row_avail k)) [] (filter (is_usable g from recall_rows) lot_rows)
-      ∙ ap (λ n. 0 + n) (total_filter (λ k. f (as_lot row_rank row_avail k)) (is_usable g from recall_rows) lot_rows ∙ rows_tell_lots r ∙ sym (split_all r (lots acts))
-      ∙ sym (total_filter (λ (k : KnownLot). if is_shippable first acts k then f (as_lot lot_rank lot_avail k) else 0) (λ k. of_item g k.lot) (lots acts))
-      ∙ sym (total_filter (λ (k : KnownLot). f (as_lot lot_rank lot_avail k)) (is_shippable first acts) (lots_of acts g))
+      ∙ ap (λ n. 0 + n) (total_kept (λ k. f (as_lot row_rank row_avail k)) (is_usable g from recall_rows) lot_rows ∙ rows_tell_lots r ∙ sym (split_all r (lots acts))
+      ∙ sym (total_kept (λ (k : KnownLot). if is_shippable first acts k then f (as_lot lot_rank lot_avail k) else 0) (λ k. of_item g k.lot) (lots acts))
+      ∙ sym (total_kept (λ (k : KnownLot). f (as_lot lot_rank lot_avail k)) (is_shippable first acts) (lots_of acts g))
       ∙ sym (total_ordered goes_before (λ (k : KnownLot). f (as_lot lot_rank lot_avail k)) (filter (is_shippable first acts) (lots_of acts g)))
       ∙ sym (total_map f (as_lot lot_rank lot_avail) (shippable_lots first acts g)) ∙ sym (same_total f told_list))
       ∙ omega arith
@@ -549,7 +502,7 @@ module _ (first : ℤ) (acts : List Act) (history : IsHistory first acts) (g : L
         same_total (λ (x : Supply). x.avail) (supplies_seen g from recall_rows bin_rows stock_rows lot_rows),
         total_map (λ (x : Supply). x.avail) (supply_seen bin_rows stock_rows) (usable_lots g from recall_rows lot_rows),
         total_inserted goes_first row_avail [] (filter (is_usable g from recall_rows) lot_rows),
-        total_filter row_avail (is_usable g from recall_rows) lot_rows,
+        total_kept row_avail (is_usable g from recall_rows) lot_rows,
         avail_by_rows lot_rows,
         totals_swapped (λ (k : LotRow) (r : StockRow). if is_lot k.lot r.lot then own_qty r else 0) lot_rows stock_rows,
         each_row_once stock_rows,

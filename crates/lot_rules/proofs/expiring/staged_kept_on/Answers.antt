@@ -1,14 +1,11 @@
-use Rattle.std.proofs.Common.{◌∙◌}
-use Rattle.std.specs.Prelude.{not, filter, find}
-use Rattle.machine.specs.Postings.{is_lot}
-use Rattle.row_rules.specs.Status.{is_past_row, earliest_seen}
 use Rattle.row_rules.specs.LookUps.{rows_given}
 use Rattle.row_rules.proofs.Giving.{same_items}
-use Rattle.lot_rules.proofs.GivingOut.{kept_given}
+use Rattle.lot_rules.specs.GivenOut.{is_out_given}
+use Rattle.lot_rules.proofs.GivingOut.{kept_same}
 use Rattle.lot_rules.proofs.expiring.staged_kept_on.Goals as goal
 
 pub returns : goal.returns
 returns c =
     let a = c.args in
-    same_items c.rows_kept_on.result _ _ c.rows_kept_on.ensures
-    (kept_given (rows_given c.in_ok-lots.lots) c.as_slice.result.now c.in_ok-lots.ensures a.day (rows_given c.in_ok-asked.asked) a.least.now c.in_ok-asked.ensures c.as_slice-rows.result.now ∙ (λ i. filter (λ r. not (is_past_row (find (λ k. is_lot r.lot k.lot) (c.as_slice.ensures i)) (earliest_seen a.day a.least.now r.lot.gtin))) (c.as_slice-rows.ensures i)))
+    let o = c.in_ok-outs.outs in
+    same_items c.failing.result _ _ c.failing.ensures (kept_same (is_out_given (rows_given o.lots) o.day (rows_given o.asked)) a.slice.now a.day a.least.now c.in_ok-outs.ensures c.as_slice-rows.result.now c.as_slice-rows.ensures)

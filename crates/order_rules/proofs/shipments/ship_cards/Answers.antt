@@ -19,4 +19,4 @@ returns c =
     let given : StagedRow → CardRow = λ r. record (ship_card s r) { rest = lot_units r.lot (stock r.lot.lot) (staged r.lot.lot) - r.qty } in
     let units : (l : LotId) → lot_units l (stock l.lot) (staged l.lot) ≡ lot_units l s.rows.stock s.rows.staged =
     λ l. lot_units_given stock c.as_slice.result.now c.in_ok-stock.ensures staged c.as_slice-2.result.now c.in_ok-staged.ensures l ∙ (λ i. lot_units l (c.as_slice.ensures i) (c.as_slice-2.ensures i)) in
-    same_items c.cards_given.result _ _ c.cards_given.ensures (map_agree given (ship_card s) (λ r. λ i. record (ship_card s r) { rest = units r.lot i - r.qty }) a.rows.now)
+    same_items c.each_made.result _ _ c.each_made.ensures (map_agree given (ship_card s) (λ r. λ i. record (ship_card s r) { rest = units r.lot i - r.qty }) a.rows.now)

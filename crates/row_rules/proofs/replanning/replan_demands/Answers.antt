@@ -4,7 +4,7 @@ use Rattle.std.proofs.lemmas.Result.{IfOk-weaker}
 use Rattle.row_rules.specs.Replanning.{replanned_from}
 use Rattle.row_rules.specs.declared.indexed.DemandsIndexed.{DemandsIndexed}
 use Rattle.row_rules.specs.declared.indexed.SuppliesIndexed.{SuppliesIndexed}
-use Rattle.row_rules.proofs.Sides.{AreDemandsOf, AreSuppliesOf, needed, offered, needed_of, offered_of, between_is}
+use Rattle.row_rules.proofs.Sides.{AreDemandsOf, AreSuppliesOf, needed, needed_of, offered_of, between_is}
 use Rattle.row_rules.proofs.replanning.replan_demands.Goals as goal
 
 pub returns-clause-put : goal.returns-clause-put

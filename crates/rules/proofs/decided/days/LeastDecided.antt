@@ -25,7 +25,7 @@ use Rattle.lot_rules.specs.DecidedLeast.{least_judged, least_row_put, least_rows
 use Rattle.row_rules.specs.declared.slice.Slice.{Slice}
 use Rattle.row_rules.specs.declared.slice.Change.{Change}
 use Rattle.row_rules.specs.declared.slice.RuleFault.{RuleFault}
-use Rattle.machine.proofs.Tests.{same_text_is}
+use Rattle.machine.proofs.Tests.{same_text_is, and_not_itself}
 use Rattle.machine.proofs.histories.Accepted.{room_for_acts, least_accepted}
 use Rattle.rules.proofs.rows.FoundRows.{found_passes}
 use Rattle.rules.proofs.rows.TableSteps.{same_tables, names_changed, reserved_changed}
@@ -35,10 +35,6 @@ use Rattle.rules.proofs.decided.days.LotsOut.{SaysWhenLotsShip, TellsWhenLotsShi
 use Rattle.rules.proofs.decided.days.RowsOut.{stock_at, stock_once, staged_at, out_named, out_put_once}
 use Rattle.rules.proofs.decided.days.ReplyOut.{out_is}
 use Rattle.rules.proofs.decided.days.LeastJudged.{least_is_judged}
-
-never_both : (b : Bool) → b && not b ≡ false
-never_both true = refl
-never_both false = refl
 
 module _ (first : ℤ) (acts : List Act) (key : Key) (l : NewLeast) (known : has_item acts l.gtin ≡ true) where
   abbrev asking : Act
@@ -59,7 +55,7 @@ module _ (first : ℤ) (acts : List Act) (key : Key) (l : NewLeast) (known : has
   lot_touched k found =
       elim (same_text k.lot.gtin l.gtin) as (λ b. is_shippable first acts k && not (not (is_held acts k.lot) && not (is_recalled acts k.lot) && not (is_expired (today first acts +ℤ pos (days_if b k.lot.gtin)) k.expiry)) ≡ true → b ≡ true) [
         | true ↦ λ t. refl
-        | false ↦ λ t. sym (never_both (is_shippable first acts k)) ∙ t
+        | false ↦ λ t. sym (and_not_itself (is_shippable first acts k)) ∙ t
       ]
 
   says : SaysWhenLotsShip first asking acts

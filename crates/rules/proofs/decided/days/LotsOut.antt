@@ -51,15 +51,11 @@ any_in {X = X} sought test keep (y ∷ ys) x e k t =
       | false ↦ λ f. behind (keep y) (any_in sought test keep ys x f k t)
     ] e
   where
-    later : (a b : Bool) → b ≡ true → a || b ≡ true
-    later true b h = refl
-    later false b h = h
-
     behind : (b : Bool) → list_any test (filter keep ys) ≡ true → list_any test (if b then y ∷ filter keep ys else filter keep ys) ≡ true
-    behind true h = later (test y) _ h
+    behind true h = or_later (test y) _ h
     behind false h = h
 
--- what was shippable, and is not for a later expiry alone, expires before it
+-- what was shippable, and is not for a or_later expiry alone, expires before it
 expired_since : (held recalled past now : Bool) → (held && recalled && past) && not (held && recalled && not now) ≡ true → now ≡ true
 expired_since true true true true e = refl
 expired_since true true true false e = let f : false ≡ true = e in cc

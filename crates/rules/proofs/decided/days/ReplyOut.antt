@@ -26,6 +26,7 @@ use Rattle.machine.proofs.histories.LegalHistories.{legal_history}
 use Rattle.machine.proofs.histories.LotItems.{items_within_limit}
 use Rattle.machine.proofs.histories.UnitsLimit.{units_within_limit}
 use Rattle.machine.proofs.histories.PlaceRows.{stage_cells, staged_holds}
+use Rattle.machine.proofs.Numbers.{add_totals}
 use Rattle.rules.proofs.rows.LeavingLots.{stages_gone, all_returned}
 use Rattle.rules.proofs.decided.days.LotsOut.{SaysWhenLotsShip, TellsWhenLotsShip, out_touched, makes}
 use Rattle.rules.proofs.decided.days.RowsOut.{all_staged_are}
@@ -35,10 +36,6 @@ use Rattle.rules.proofs.decided.days.RowsOut.{all_staged_are}
 total_within : {X : Type 0} (f : X → ℕ) → ((x : X) → f x ≤ UNITS_MAX) → (xs : List X) → total f xs ≤ UNITS_MAX * length xs
 total_within f small [] = omega arith
 total_within f small (x ∷ xs) = omega (arith, small x, total_within f small xs)
-
-total_of_sum : {X : Type 0} (f g : X → ℕ) (xs : List X) → total (λ x. f x + g x) xs ≡ total f xs + total g xs
-total_of_sum f g [] = omega arith
-total_of_sum f g (x ∷ xs) = omega (arith, total_of_sum f g xs)
 
 module _ (gone : LotId → Bool) where
   abbrev own : List ℕ → StagedRow → ℕ
@@ -62,7 +59,7 @@ module _ (gone : LotId → Bool) where
       → total (λ (r : StagedRow). if gone r.lot then r.qty else 0) rows ≤ total (λ (i : NewItem). total (own i.gtin) rows) is
   by_items is known [] = omega arith
   by_items is known (r ∷ rs) =
-      omega (arith, counted r is (known r.lot), by_items is known rs, total_of_sum (λ (i : NewItem). own i.gtin r) (λ (i : NewItem). total (own i.gtin) rs) is)
+      omega (arith, counted r is (known r.lot), by_items is known rs, add_totals (λ (i : NewItem). own i.gtin r) (λ (i : NewItem). total (own i.gtin) rs) is)
 
 module _ (first : ℤ) (acts : List Act) (act : Act) (s : Slice) (slice : IsSlice first act acts (tables_of first acts) s) (says : SaysWhenLotsShip first act acts)
     (day : ℤ) (least : List LeastRow) (tells : TellsWhenLotsShip first act acts day least) (next : IsHistory first (act ∷ acts)) where

@@ -2,6 +2,7 @@
 use Rattle.std.proofs.Common.{◌≡◌, ℕ, ◌+◌, Bool, true, false, ◌&&◌, not, List, [], ◌∷◌, ◌++◌, refl, ap, sym, subst, ◌∙◌, arith}
 use Rattle.std.specs.Prelude.{◌==◌, ◌||◌, if◌then◌else◌, Option, Some, None, find, filter, flat_map, is_some, option_map, ℤ}
 use Rattle.std.specs.List.{list_any}
+use Rattle.std.proofs.lemmas.List.Folds.{list_any-append}
 use Rattle.values.specs.Values.{same_text}
 use Rattle.values.specs.declared.lot.LotId.{LotId}
 use Rattle.commands.specs.Lists.{total}
@@ -38,7 +39,7 @@ use Rattle.machine.proofs.histories.ReturnsBin.{returns_named}
 use Rattle.rules.proofs.rows.AfterRows.{loosened}
 use Rattle.rules.proofs.rows.TableSteps.{AreNamed}
 use Rattle.rules.proofs.rows.replanned.EachItem.{items_replanned, items_put_once}
-use Rattle.rules.proofs.rows.AddedRows.{find_appended, any_appended}
+use Rattle.rules.proofs.rows.AddedRows.{find_appended}
 use Rattle.rules.proofs.rows.DemandsTold.{TellsDemands}
 use Rattle.rules.proofs.rows.DroppedRows.{rows_left, dropped_at}
 use Rattle.rules.proofs.rows.FoundRows.{there_found}
@@ -131,7 +132,7 @@ module _ (s : Slice) (day : ℤ) (least : List LeastRow) where
   no_other_bin : (b : List ℕ) → same_text b RETURNS ≡ false → (ks : List LotRow) → list_any (λ (r : StockRow). same_text b r.bin) (flat_map (lot_returned_on s day least) ks) ≡ false
   no_other_bin b e [] = refl
   no_other_bin b e (k ∷ ks) =
-      any_appended (λ (r : StockRow). same_text b r.bin) (lot_returned_on s day least k) (flat_map (lot_returned_on s day least) ks) ∙ (λ i. own i || no_other_bin b e ks i)
+      list_any-append (λ (r : StockRow). same_text b r.bin) (lot_returned_on s day least k) (flat_map (lot_returned_on s day least) ks) ∙ (λ i. own i || no_other_bin b e ks i)
     where
       own : list_any (λ (r : StockRow). same_text b r.bin) (lot_returned_on s day least k) ≡ false
       own = elim (is_out s day least k.lot) as (λ t. list_any (λ (r : StockRow). same_text b r.bin) (if t then returned_put s k.lot else []) ≡ false) [
@@ -149,7 +150,7 @@ module _ (s : Slice) (day : ℤ) (least : List LeastRow) where
   no_other_lot : (m : LotId) (ks : List LotRow) → list_any (λ (k : LotRow). is_lot m k.lot) ks ≡ false → list_any (λ (r : StockRow). is_lot m r.lot) (flat_map (lot_returned_on s day least) ks) ≡ false
   no_other_lot m [] e = refl
   no_other_lot m (k ∷ ks) e =
-      any_appended (λ (r : StockRow). is_lot m r.lot) (lot_returned_on s day least k) (flat_map (lot_returned_on s day least) ks) ∙ (λ i. own i || no_other_lot m ks two.1 i)
+      list_any-append (λ (r : StockRow). is_lot m r.lot) (lot_returned_on s day least k) (flat_map (lot_returned_on s day least) ks) ∙ (λ i. own i || no_other_lot m ks two.1 i)
     where
       two : (is_lot m k.lot ≡ false) × (list_any (λ (k : LotRow). is_lot m k.lot) ks ≡ false)
       two = or_none (is_lot m k.lot) (list_any (λ (k : LotRow). is_lot m k.lot) ks) e
@@ -324,7 +325,7 @@ module _ (first : ℤ) (acts : List Act) (act : Act) (s : Slice) (slice : IsSlic
         behind : same_text b RETURNS ≡ false → list_any (λ (r : StockRow). same_text b r.bin) (filter (λ r. not (stands_in (stock_returned s day least) r)) s.rows.stock) ≡ true
         behind c =
             ap (λ x. x || list_any (λ (r : StockRow). same_text b r.bin) (filter (λ r. not (stands_in (stock_returned s day least) r)) s.rows.stock)) (sym (no_other_bin s day least b c s.rows.lots))
-            ∙ sym (any_appended (λ (r : StockRow). same_text b r.bin) (stock_returned s day least) (filter (λ r. not (stands_in (stock_returned s day least) r)) s.rows.stock)) ∙ e
+            ∙ sym (list_any-append (λ (r : StockRow). same_text b r.bin) (stock_returned s day least) (filter (λ r. not (stands_in (stock_returned s day least) r)) s.rows.stock)) ∙ e
 
     -- a lot with stock after it is one of the slice, or had stock before
     lots_found : (m : LotId) → in_stock h (stock_on s day least) m ≡ true → find (λ (k : LotRow). is_lot m k.lot) s.rows.lots ≡ lot_row acts m
@@ -342,7 +343,7 @@ module _ (first : ℤ) (acts : List Act) (act : Act) (s : Slice) (slice : IsSlic
             → list_any (λ (r : StockRow). is_lot m r.lot) (filter (λ r. not (stands_in (stock_returned s day least) r)) s.rows.stock) ≡ true
         behind c f =
             ap (λ x. x || list_any (λ (r : StockRow). is_lot m r.lot) (filter (λ r. not (stands_in (stock_returned s day least) r)) s.rows.stock)) (sym (no_other_lot s day least m s.rows.lots c))
-            ∙ sym (any_appended (λ (r : StockRow). is_lot m r.lot) (stock_returned s day least) (filter (λ r. not (stands_in (stock_returned s day least) r)) s.rows.stock)) ∙ f
+            ∙ sym (list_any-append (λ (r : StockRow). is_lot m r.lot) (stock_returned s day least) (filter (λ r. not (stands_in (stock_returned s day least) r)) s.rows.stock)) ∙ f
 
     pub supplies_after : TellsSupplies first after h s.rows.lots s.rows.recalls (stock_on s day least) (bins_with_returns s)
     supplies_after =

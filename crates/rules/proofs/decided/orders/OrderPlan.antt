@@ -27,6 +27,7 @@ use Rattle.machine.proofs.Tests.{or_none, same_text_is, same_text_refl}
 use Rattle.machine.proofs.Apart.{AreApart}
 use Rattle.machine.proofs.histories.Served.{demands_apart}
 use Rattle.machine.proofs.histories.Orders.{act_names_order}
+use Rattle.machine.proofs.Mapping.{map_appended}
 use Rattle.rules.proofs.decided.orders.Placing.{new_needs}
 use Rattle.rules.proofs.decided.orders.OrderStep.{act, after, placed, named_same}
 
@@ -86,10 +87,6 @@ others_before : (ds : List Demand) (d : Demand) → AreApart (λ (d e : Demand).
 others_before [] d h = tt
 others_before (c ∷ ds) d h = (last_apart c.booking ds d h.0, others_before ds d h.1)
 
-map_append : {X Y : Type 0} (f : X → Y) (xs ys : List X) → map f (xs ++ ys) ≡ map f xs ++ map f ys
-map_append f [] ys = refl
-map_append f (x ∷ xs) ys = ap (λ zs. f x ∷ zs) (map_append f xs ys)
-
 module _ (first : ℤ) (acts : List Act) (key : Key) (o : NewOrder) (next : IsHistory first (act first acts key o false ∷ acts)) (new : has_order acts o.order ≡ false)
     (l : OrderLine) (alone : filter (λ m. same_text l.gtin m.gtin) o.lines ≡ l ∷ []) where
   abbrev g : List ℕ
@@ -113,7 +110,7 @@ module _ (first : ℤ) (acts : List Act) (key : Key) (o : NewOrder) (next : IsHi
   demands_after : demands first (after first acts key o false) g ≡ demands first acts g ++ line_demand ∷ []
   demands_after =
       ap (map (demand_of acts (item_postings first acts g))) bookings_after
-      ∙ map_append (demand_of acts (item_postings first acts g)) (bookings acts g) (booking_of own l ∷ [])
+      ∙ map_appended (demand_of acts (item_postings first acts g)) (bookings acts g) (booking_of own l ∷ [])
       ∙ ap (λ n. demands first acts g ++ record { booking = next_number acts; need = n } ∷ []) (new_needs first acts next.0 (booking_of own l) new)
 
   -- the rows of the line

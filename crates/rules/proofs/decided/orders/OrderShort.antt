@@ -21,7 +21,7 @@ use Rattle.row_rules.specs.Seen.{capped}
 use Rattle.machine.proofs.Tests.{and_both, or_none, same_text_refl}
 use Rattle.machine.proofs.Apart.{AllFound, any_found}
 use Rattle.machine.proofs.histories.Quantities.{at_most_limit}
-use Rattle.rules.proofs.rows.Ordering.{total_filter}
+use Rattle.row_rules.proofs.LookingUp.{total_kept}
 use Rattle.rules.proofs.rows.BookingSums.{total_flat_map, total_bookings}
 use Rattle.rules.proofs.rows.DemandsTold.{listed, line_found}
 use Rattle.rules.proofs.decided.orders.Placing.{new_needs, orders_are, need_same}
@@ -99,6 +99,6 @@ module _ (first : ℤ) (acts : List Act) (key : Key) (o : NewOrder) (u : Bool) (
   short_is found =
       ap (λ ls. total (λ b. short_of first later b) (filter (λ b. same_text o.order b.order) (flat_map (λ (l : OrderLine). bookings later l.gtin) ls)))
       (ap lines_placed (named_own first acts key o u o.order (same_text_refl o.order)))
-      ∙ total_filter (λ b. short_of first later b) (λ b. same_text o.order b.order) (flat_map (λ (l : OrderLine). bookings later l.gtin) o.lines)
+      ∙ total_kept (λ b. short_of first later b) (λ b. same_text o.order b.order) (flat_map (λ (l : OrderLine). bookings later l.gtin) o.lines)
       ∙ total_flat_map own_short (λ (l : OrderLine). bookings later l.gtin) o.lines
       ∙ lines_short o.lines found

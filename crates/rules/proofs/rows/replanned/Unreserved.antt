@@ -22,8 +22,9 @@ use Rattle.machine.proofs.histories.Lots.{same_known, lots_found, lots_numbered,
 use Rattle.machine.proofs.histories.Orders.{orders_numbered}
 use Rattle.machine.proofs.histories.Served.{demands_told}
 use Rattle.machine.proofs.histories.Reservations.{there_under, wanted_under, reserved_within_need, reserved_within_supply}
+use Rattle.row_rules.proofs.LookingUp.{total_kept}
 use Rattle.rules.proofs.rows.DemandsTold.{same_total}
-use Rattle.rules.proofs.rows.Ordering.{total_ordered, total_filter, total_map}
+use Rattle.rules.proofs.rows.Ordering.{total_ordered, total_map}
 
 -- Where the lot of a number has no units in STORE bins, the item's supplies have nothing under it
 
@@ -56,8 +57,8 @@ module _ (first : ℤ) (acts : List Act) (g : List ℕ) (n : ℕ) (empty : (j : 
       same_total (λ (x : Supply). if x.lot == n then x.avail else 0) (supplies first acts g)
       ∙ total_map (λ (x : Supply). if x.lot == n then x.avail else 0) (supply_of acts (item_postings first acts g)) (shippable_lots first acts g)
       ∙ total_ordered goes_before avail_of (filter (is_shippable first acts) (lots_of acts g))
-      ∙ total_filter avail_of (is_shippable first acts) (lots_of acts g)
-      ∙ total_filter (λ j. if is_shippable first acts j then avail_of j else 0) (λ j. of_item g j.lot) (lots acts)
+      ∙ total_kept avail_of (is_shippable first acts) (lots_of acts g)
+      ∙ total_kept (λ j. if is_shippable first acts j then avail_of j else 0) (λ j. of_item g j.lot) (lots acts)
       ∙ none_counted (lots acts) (lots_found acts)
 
   in_lot : (b : ℕ) (rows : List Row) → reserved_in b n rows ≤ reserved_on n rows

@@ -1,0 +1,15 @@
+use Rattle.std.proofs.Common.{ap}
+use Rattle.std.specs.Prelude.{not}
+use Rattle.std.specs.List.{list_any}
+use Rattle.std.specs.BTreeSet.{contains}
+use Rattle.std.proofs.lemmas.List.Elements.{filter_agree}
+use Rattle.row_rules.specs.Apart.{row_key, row_cmp}
+use Rattle.row_rules.specs.Replanning.{same_row}
+use Rattle.row_rules.proofs.Giving.{same_items}
+use Rattle.row_rules.proofs.plan_difference.rows_not_found.Goals as goal
+
+pub returns : goal.returns
+returns c =
+    let a = c.args in
+    let set = c.in_ok-known.known in
+    same_items c.failing-2.result _ _ c.failing-2.ensures (filter_agree (λ r. not (contains row_cmp set (row_key r))) (λ r. not (list_any (same_row r) a.others.now)) (λ r. ap not (c.in_ok-known.ensures r)) a.rows.now)
