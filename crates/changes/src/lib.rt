@@ -2,6 +2,7 @@
 #![tactic(auto)]
 
 mod rows;
+pub mod tables;
 mod writing;
 
 pub use writing::write_change;
