@@ -1,10 +1,10 @@
 //! Books in memory, beside which the file of the acts is opened.
 
 use crate::acting::acts_of;
-use crate::disk::Stopping;
+use crate::disk::{ALWAYS, Held, Stopping, disk_of};
 use crate::filed::{are_filed, day_is_given, is_printed};
 use crate::memory::is_kept;
-use crate::opened::{Case, are_opened, bytes_are_changed, is_cut_at_each_byte, tails_are_long};
+use crate::opened::{are_opened, bytes_are_changed, is_cut_at_each_byte, tails_are_long};
 use crate::stops::{Start, stops};
 use crate::torn::{a_thousand_rows_are_kept, many_are_added, writes_are_torn};
 use acts_files::{ActsFault, NotOpened, open_beside};
@@ -18,7 +18,7 @@ use store::Books;
 #[derive(Clone, Copy)]
 pub(crate) enum Trial<'a> {
     /// Files are opened.
-    Opened(&'a [Case]),
+    Opened(&'a str),
     /// The file has the lines up to each byte.
     Cut,
     /// A byte of the file is changed, each in turn.
@@ -84,6 +84,36 @@ pub(crate) fn opened<S: Alter>(
         Ok(file) => (file.into_disk(), None),
         Err(NotOpened { disk, fault }) => (disk, Some(fault)),
     }
+}
+
+/// The file, opened as of acts that began on this day, then has this text; or it is not opened, for this cause, and is as it was.
+pub(crate) fn is_of_day<S: Alter>(
+    rt: &impl Abort,
+    alloc: Global,
+    books: &mut Books<S>,
+    file: &[u8],
+    begun: Day,
+    expected: Result<&[u8], ActsFault>,
+) {
+    let (disk, fault) = opened(alloc, books, begun, disk_of(rt, alloc, file, ALWAYS));
+    let held = Held::by(rt, alloc, disk);
+    let is_so = match expected {
+        Ok(text) => fault.is_none() && held.is(text),
+        Err(expected) => fault == Some(expected) && held.is(file),
+    };
+    drop(held);
+    assert!(rt; is_so, "{fault:?}");
+}
+
+/// Likewise of acts that began on the day of the books.
+pub(crate) fn is_so<S: Alter>(
+    rt: &impl Abort,
+    alloc: Global,
+    books: &mut Books<S>,
+    file: &[u8],
+    expected: Result<&[u8], ActsFault>,
+) {
+    is_of_day(rt, alloc, books, file, first_day(rt), expected);
 }
 
 fn tried<S: Alter + Drop>(rt: &impl Abort, alloc: Global, conn: Connection<S>, trial: Trial<'_>) {

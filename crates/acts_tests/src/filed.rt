@@ -1,13 +1,12 @@
 //! Goods-in files and acts that come again, whose lines are added once; and the day on which the acts began.
 
 use crate::acting::acts_of;
-use crate::books::{Trial, act, day, first_day, in_memory, opened};
+use crate::books::{Trial, act, day, first_day, in_memory, is_of_day, opened};
 use crate::disk::{ALWAYS, Held, Stopping, disk_of};
 use crate::history::{lines, part};
 use acts_files::{ActsFault, ActsFile, NotOpened, open_beside};
 use commands::Refusal;
 use histories::print_history;
-use label::Day;
 use sqlite::Alter;
 use std::alloc::Global;
 use std::process::Abort;
@@ -139,25 +138,6 @@ static OPENED_FIRST: &[u8] =
 
 static BEGUN_LATER: &[u8] =
     b"1\t2026-05-07\tK/K-1\tITEM\t09506000134352\tOat drink\n2\t2026-05-08\tK/K-2\tOPENDAY\t2026-05-08\n";
-
-// The file, opened as of acts that began on this day, has this; or it is as it was.
-fn is_of_day<S: Alter>(
-    rt: &impl Abort,
-    alloc: Global,
-    books: &mut Books<S>,
-    file: &[u8],
-    begun: Day,
-    expected: Result<&[u8], ActsFault>,
-) {
-    let (disk, fault) = opened(alloc, books, begun, disk_of(rt, alloc, file, ALWAYS));
-    let held = Held::by(rt, alloc, disk);
-    let is_so = match expected {
-        Ok(text) => fault.is_none() && held.is(text),
-        Err(expected) => fault == Some(expected) && held.is(file),
-    };
-    drop(held);
-    assert!(rt; is_so, "{fault:?}");
-}
 
 /// The lines before the first opening have the day that is given.
 pub(crate) fn day_is_given<S: Alter>(rt: &impl Abort, alloc: Global, books: &mut Books<S>) {

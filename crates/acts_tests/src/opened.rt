@@ -1,7 +1,6 @@
 //! Files that are opened beside books: whole, with a tail that a stop leaves, of other books, of older and of newer ones.
 
-use crate::books::{Trial, act, first_day, in_memory, opened};
-use crate::disk::{ALWAYS, Held, disk_of};
+use crate::books::{Trial, act, in_memory, is_so};
 use crate::history::{ALL, line_at, lines, part};
 use act_lines::LINE_MAX;
 use acts_files::ActsFault;
@@ -10,321 +9,106 @@ use std::alloc::Global;
 use std::process::Abort;
 use store::Books;
 
+// Cases, a line each, by the number of acts that the books have: `ACTS|LINES|BYTES|FROM => END`. The file has so many of the first
+// lines, these bytes, and all lines behind so many. It is made whole, it differs from an act, or the books lack one. Signs stand
+// for a tab, a line feed, a carriage return and a zero.
+
+// What a stop leaves: the file then has the lines of all acts.
+static TORN: &str = r#"0|0||10 => whole
+0|0|1␉2026-05-04␉K/K-1␉ITEM|10 => whole
+4|4|5␉2026-05-04␉K/K-5␉ORD|10 => whole
+10|0||10 => whole
+10|4|5␉2026-05-04␉K/K-5␉ORD|10 => whole
+10|4|␀|10 => whole
+10|4|␀␀␀␀␀␀␀␀␀␀␀␀␀␀␀␀|10 => whole
+10|10|␀␀␀␀␀␀␀␀␀␀␀␀␀␀␀␀|10 => whole
+10|4|5␉2026-05-04␀␀␀␀␀␀␀␀␀|10 => whole
+10|10|11␉2026-05-05␉K/K-11␉RECALL␉09506000134352␉L2|10 => whole
+10|10|1␀␀␀␀␀␀␀|10 => whole"#;
+
+// What no stop leaves, and the file is as it was: books of fewer acts than the file; other books; a line that is left out, doubled
+// or without its end; other line ends, and lines with nothing in them; what is no part of the line of the next act; small files
+// of another kind; another number, day, key or word.
+static OTHER: &str = r#"0|1||10 => lacks 1
+4|10||10 => lacks 5
+4|5|6␉2026-05-05␉K/K-6␉OPEN|10 => lacks 5
+9|10||10 => lacks 10
+10|0|1␉2026-05-04␉K/K-1␉ITEM␉04012345000016␉Rye bread␊|1 => differs 1
+10|4|5␉2026-05-04␉K/K-5␉ORDER␉S-1␉Corner Shop␉09506000134352␉13␊|5 => differs 5
+10|9|10␉2026-05-05␉K/K-10␉RECALL␉09506000134352␉L1␊|10 => differs 10
+10|2||3 => differs 3
+10|3||2 => differs 4
+10|10||9 => differs 11
+10|1|2␉2026-05-04␉K/K-2␉BIN␉A-01␉STORE|2 => differs 2
+10|1|2␉2026-05-04␉K/K-2␉BIN␉A-01␉STORE␍␊|2 => differs 2
+10|0|␊|0 => differs 1
+10|10|␊|10 => differs 11
+10|10|10␉2026-05-05␉K/K-10␉RECALL␉09506000134352␉L2|10 => differs 11
+10|10|␍|10 => differs 11
+10|0|1␉2026-05-04␉K/OTHER␉ITEM|10 => differs 1
+10|0|{"port": 8090}|10 => differs 1
+10|0|[Unit]␊Description=stock␊|10 => differs 1
+10|4|␀␀␀␀␀␀␀␀␊|10 => differs 5
+10|2|03␉2026-05-04␉D/D-1/1␉RECEIVE␉09506000134352␉L1␉2026-06-30␉A-01␉10␊|3 => differs 3
+10|5|6␉2026-05-04␉K/K-6␉OPENDAY␉2026-05-05␊|6 => differs 6
+10|6|7␉2026-05-04␉K/K-7␉PICK␉S-1␉09506000134352␉L2␉A-01␉10␊|7 => differs 7
+10|7|8␉2026-05-05␉D/K-8␉SHIP␉S-1␊|8 => differs 8
+10|7|8␉2026-05-05␉K/K-8␉SHIP␉S-1␉␊|8 => differs 8
+10|7|8␉2026-05-05␉K/K-8␉SHIP␊|8 => differs 8"#;
+
+// The text with what its signs stand for.
+fn unmarked(rt: &impl Abort, alloc: Global, text: &str) -> String {
+    let text = text.replace(alloc, '␉', "\t").ok().expect(rt, "memory");
+    let text = text.replace(alloc, '␊', "\n").ok().expect(rt, "memory");
+    let text = text.replace(alloc, '␍', "\r").ok().expect(rt, "memory");
+    text.replace(alloc, '␀', "\0").ok().expect(rt, "memory")
+}
+
+fn number(rt: &impl Abort, text: &str) -> usize {
+    text.parse().ok().expect(rt, "a number")
+}
+
 /// A file, and books of the acts of the first lines.
-#[derive(Clone, Copy)]
-pub(crate) struct Case {
-    /// How many acts the books have.
+#[derive(Drop)]
+struct Case {
     acts: usize,
-    /// The file has so many of the first lines, these bytes, and the lines from the one to the other.
-    lines: usize,
-    bytes: &'static [u8],
-    behind: (usize, usize),
+    file: Vec<u8>,
     /// Why it is not opened.
     fault: Option<ActsFault>,
 }
 
-// What a stop leaves: the file then has the lines of all acts.
-static TORN: [Case; 11] = [
-    Case {
-        acts: 0,
-        lines: 0,
-        bytes: b"",
-        behind: (0, 0),
-        fault: None,
-    },
-    Case {
-        acts: 0,
-        lines: 0,
-        bytes: b"1\t2026-05-04\tK/K-1\tITEM",
-        behind: (0, 0),
-        fault: None,
-    },
-    Case {
-        acts: 4,
-        lines: 4,
-        bytes: b"5\t2026-05-04\tK/K-5\tORD",
-        behind: (0, 0),
-        fault: None,
-    },
-    Case {
-        acts: ALL,
-        lines: 0,
-        bytes: b"",
-        behind: (0, 0),
-        fault: None,
-    },
-    Case {
-        acts: ALL,
-        lines: 4,
-        bytes: b"5\t2026-05-04\tK/K-5\tORD",
-        behind: (0, 0),
-        fault: None,
-    },
-    Case {
-        acts: ALL,
-        lines: 4,
-        bytes: b"\0",
-        behind: (0, 0),
-        fault: None,
-    },
-    Case {
-        acts: ALL,
-        lines: 4,
-        bytes: b"\0\0\0\0\0\0\0\0\0\0\0\0\0\0\0\0",
-        behind: (0, 0),
-        fault: None,
-    },
-    Case {
-        acts: ALL,
-        lines: ALL,
-        bytes: b"\0\0\0\0\0\0\0\0\0\0\0\0\0\0\0\0",
-        behind: (0, 0),
-        fault: None,
-    },
-    Case {
-        acts: ALL,
-        lines: 4,
-        bytes: b"5\t2026-05-04\0\0\0\0\0\0\0\0\0",
-        behind: (0, 0),
-        fault: None,
-    },
-    Case {
-        acts: ALL,
-        lines: ALL,
-        bytes: b"11\t2026-05-05\tK/K-11\tRECALL\t09506000134352\tL2",
-        behind: (0, 0),
-        fault: None,
-    },
-    Case {
-        acts: ALL,
-        lines: ALL,
-        bytes: b"1\0\0\0\0\0\0\0",
-        behind: (0, 0),
-        fault: None,
-    },
-];
-
-// What no stop leaves: the file is as it was.
-static OTHER: [Case; 26] = [
-    // Books of fewer acts than the file.
-    Case {
-        acts: 0,
-        lines: 1,
-        bytes: b"",
-        behind: (0, 0),
-        fault: Some(ActsFault::Lacks(1)),
-    },
-    Case {
-        acts: 4,
-        lines: ALL,
-        bytes: b"",
-        behind: (0, 0),
-        fault: Some(ActsFault::Lacks(5)),
-    },
-    Case {
-        acts: 4,
-        lines: 5,
-        bytes: b"6\t2026-05-05\tK/K-6\tOPEN",
-        behind: (0, 0),
-        fault: Some(ActsFault::Lacks(5)),
-    },
-    Case {
-        acts: 9,
-        lines: ALL,
-        bytes: b"",
-        behind: (0, 0),
-        fault: Some(ActsFault::Lacks(10)),
-    },
-    // Other books.
-    Case {
-        acts: ALL,
-        lines: 0,
-        bytes: b"1\t2026-05-04\tK/K-1\tITEM\t04012345000016\tRye bread\n",
-        behind: (1, ALL),
-        fault: Some(ActsFault::Differs(1)),
-    },
-    Case {
-        acts: ALL,
-        lines: 4,
-        bytes: b"5\t2026-05-04\tK/K-5\tORDER\tS-1\tCorner Shop\t09506000134352\t13\n",
-        behind: (5, ALL),
-        fault: Some(ActsFault::Differs(5)),
-    },
-    Case {
-        acts: ALL,
-        lines: 9,
-        bytes: b"10\t2026-05-05\tK/K-10\tRECALL\t09506000134352\tL1\n",
-        behind: (0, 0),
-        fault: Some(ActsFault::Differs(10)),
-    },
-    // A line left out, doubled, and one without its end.
-    Case {
-        acts: ALL,
-        lines: 2,
-        bytes: b"",
-        behind: (3, ALL),
-        fault: Some(ActsFault::Differs(3)),
-    },
-    Case {
-        acts: ALL,
-        lines: 3,
-        bytes: b"",
-        behind: (2, ALL),
-        fault: Some(ActsFault::Differs(4)),
-    },
-    Case {
-        acts: ALL,
-        lines: ALL,
-        bytes: b"",
-        behind: (9, ALL),
-        fault: Some(ActsFault::Differs(11)),
-    },
-    Case {
-        acts: ALL,
-        lines: 1,
-        bytes: b"2\t2026-05-04\tK/K-2\tBIN\tA-01\tSTORE",
-        behind: (2, ALL),
-        fault: Some(ActsFault::Differs(2)),
-    },
-    // Other line ends, and lines with nothing in them.
-    Case {
-        acts: ALL,
-        lines: 1,
-        bytes: b"2\t2026-05-04\tK/K-2\tBIN\tA-01\tSTORE\r\n",
-        behind: (2, ALL),
-        fault: Some(ActsFault::Differs(2)),
-    },
-    Case {
-        acts: ALL,
-        lines: 0,
-        bytes: b"\n",
-        behind: (0, ALL),
-        fault: Some(ActsFault::Differs(1)),
-    },
-    Case {
-        acts: ALL,
-        lines: ALL,
-        bytes: b"\n",
-        behind: (0, 0),
-        fault: Some(ActsFault::Differs(11)),
-    },
-    // What is no part of the line of the next act, and small files of another kind.
-    Case {
-        acts: ALL,
-        lines: ALL,
-        bytes: b"10\t2026-05-05\tK/K-10\tRECALL\t09506000134352\tL2",
-        behind: (0, 0),
-        fault: Some(ActsFault::Differs(11)),
-    },
-    Case {
-        acts: ALL,
-        lines: ALL,
-        bytes: b"\r",
-        behind: (0, 0),
-        fault: Some(ActsFault::Differs(11)),
-    },
-    Case {
-        acts: ALL,
-        lines: 0,
-        bytes: b"1\t2026-05-04\tK/OTHER\tITEM",
-        behind: (0, 0),
-        fault: Some(ActsFault::Differs(1)),
-    },
-    Case {
-        acts: ALL,
-        lines: 0,
-        bytes: b"{\"port\": 8090}",
-        behind: (0, 0),
-        fault: Some(ActsFault::Differs(1)),
-    },
-    Case {
-        acts: ALL,
-        lines: 0,
-        bytes: b"[Unit]\nDescription=stock\n",
-        behind: (0, 0),
-        fault: Some(ActsFault::Differs(1)),
-    },
-    Case {
-        acts: ALL,
-        lines: 4,
-        bytes: b"\0\0\0\0\0\0\0\0\n",
-        behind: (0, 0),
-        fault: Some(ActsFault::Differs(5)),
-    },
-    // Another number, another day, another key, another word.
-    Case {
-        acts: ALL,
-        lines: 2,
-        bytes: b"03\t2026-05-04\tD/D-1/1\tRECEIVE\t09506000134352\tL1\t2026-06-30\tA-01\t10\n",
-        behind: (3, ALL),
-        fault: Some(ActsFault::Differs(3)),
-    },
-    Case {
-        acts: ALL,
-        lines: 5,
-        bytes: b"6\t2026-05-04\tK/K-6\tOPENDAY\t2026-05-05\n",
-        behind: (6, ALL),
-        fault: Some(ActsFault::Differs(6)),
-    },
-    Case {
-        acts: ALL,
-        lines: 6,
-        bytes: b"7\t2026-05-04\tK/K-7\tPICK\tS-1\t09506000134352\tL2\tA-01\t10\n",
-        behind: (7, ALL),
-        fault: Some(ActsFault::Differs(7)),
-    },
-    Case {
-        acts: ALL,
-        lines: 7,
-        bytes: b"8\t2026-05-05\tD/K-8\tSHIP\tS-1\n",
-        behind: (8, ALL),
-        fault: Some(ActsFault::Differs(8)),
-    },
-    Case {
-        acts: ALL,
-        lines: 7,
-        bytes: b"8\t2026-05-05\tK/K-8\tSHIP\tS-1\t\n",
-        behind: (8, ALL),
-        fault: Some(ActsFault::Differs(8)),
-    },
-    Case {
-        acts: ALL,
-        lines: 7,
-        bytes: b"8\t2026-05-05\tK/K-8\tSHIP\n",
-        behind: (8, ALL),
-        fault: Some(ActsFault::Differs(8)),
-    },
-];
-
-// The file is opened, and then has the lines of so many acts; or it is not, for this cause, and is as it was.
-fn is_so<S: Alter>(
-    rt: &impl Abort,
-    alloc: Global,
-    books: &mut Books<S>,
-    acts: usize,
-    file: &[u8],
-    fault: Option<ActsFault>,
-) {
-    let disk = disk_of(rt, alloc, file, ALWAYS);
-    let (disk, found) = opened(alloc, books, first_day(rt), disk);
-    assert!(rt; found == fault, "{fault:?} {found:?}");
-    let held = Held::by(rt, alloc, disk);
-    let is_kept = match fault {
-        None => held.is(part(0, acts)),
-        Some(_) => held.is(file),
-    };
-    drop(held);
-    assert!(rt; is_kept, "{fault:?}: other bytes");
+fn fault_of(rt: &impl Abort, end: &str) -> Option<ActsFault> {
+    let (word, act) = end.split_once(" ")?;
+    let act = number(rt, act) as u64;
+    match word {
+        "lacks" => Some(ActsFault::Lacks(act)),
+        _ => Some(ActsFault::Differs(act)),
+    }
 }
 
-impl Case {
-    fn file(&self, rt: &impl Abort, alloc: Global) -> Vec<u8> {
-        let mut file: Vec<u8> = Vec::new(alloc);
-        let (from, to) = self.behind;
-        for piece in [part(0, self.lines), self.bytes, part(from, to)] {
-            assert!(rt; file.extend_from_slice(piece).is_ok());
-        }
-        file
+fn case_of(rt: &impl Abort, alloc: Global, line: &str) -> Case {
+    let (case, end) = line.split_once(" => ").expect(rt, "two parts");
+    let (acts, rest) = case.split_once("|").expect(rt, "four fields");
+    let (first, rest) = rest.split_once("|").expect(rt, "four fields");
+    let (bytes, from) = rest.split_once("|").expect(rt, "four fields");
+    let bytes = unmarked(rt, alloc, bytes);
+    let mut file: Vec<u8> = Vec::new(alloc);
+    let (front, behind) = (part(0, number(rt, first)), part(number(rt, from), ALL));
+    for piece in [front, bytes.as_bytes(), behind] {
+        assert!(rt; file.extend_from_slice(piece).is_ok());
+    }
+    Case {
+        acts: number(rt, acts),
+        file,
+        fault: fault_of(rt, end),
+    }
+}
+
+// The file then has the lines of so many acts; or it is not opened, for this cause.
+fn end_of(acts: usize, fault: Option<ActsFault>) -> Result<&'static [u8], ActsFault> {
+    match fault {
+        None => Ok(part(0, acts)),
+        Some(fault) => Err(fault),
     }
 }
 
@@ -333,14 +117,14 @@ pub(crate) fn are_opened<S: Alter>(
     rt: &impl Abort,
     alloc: Global,
     books: &mut Books<S>,
-    cases: &[Case],
+    cases: &str,
 ) {
-    let mut acts = 0;
-    for case in cases {
-        act(rt, alloc, books, part(acts, case.acts));
-        acts = case.acts;
-        let file = case.file(rt, alloc);
-        is_so(rt, alloc, books, acts, file.as_slice(), case.fault);
+    let mut had = 0;
+    for line in cases.lines() {
+        let Case { acts, file, fault } = case_of(rt, alloc, line);
+        act(rt, alloc, books, part(had, acts));
+        had = acts;
+        is_so(rt, alloc, books, file.as_slice(), end_of(acts, fault));
     }
 }
 
@@ -356,7 +140,7 @@ pub(crate) fn is_cut_at_each_byte<S: Alter>(rt: &impl Abort, alloc: Global, book
         for size in 0..=next.len() {
             let is_more = own < size && size == next.len();
             let fault = is_more.then_some(ActsFault::Lacks(line_at(own)));
-            is_so(rt, alloc, books, acts, &next[..size], fault);
+            is_so(rt, alloc, books, &next[..size], end_of(acts, fault));
         }
     }
 }
@@ -376,9 +160,9 @@ pub(crate) fn bytes_are_changed<S: Alter>(rt: &impl Abort, alloc: Global, books:
     let text = lines();
     act(rt, alloc, books, text);
     for at in 0..text.len() {
-        let fault = Some(ActsFault::Differs(line_at(at)));
+        let fault = Err(ActsFault::Differs(line_at(at)));
         let file = changed(rt, alloc, text, at);
-        is_so(rt, alloc, books, ALL, file.as_slice(), fault);
+        is_so(rt, alloc, books, file.as_slice(), fault);
     }
 }
 
@@ -420,7 +204,7 @@ fn tails_are_told<S: Alter>(
         let is_cut = lines == acts && byte == 0 && size < LINE_MAX;
         let file = Tail { lines, byte, size }.file(rt, alloc);
         let fault = (!is_cut).then_some(misfit);
-        is_so(rt, alloc, books, acts, file.as_slice(), fault);
+        is_so(rt, alloc, books, file.as_slice(), end_of(acts, fault));
     }
 }
 
@@ -435,12 +219,12 @@ pub(crate) fn tails_are_long<S: Alter>(rt: &impl Abort, alloc: Global, books: &m
 
 #[test]
 fn a_tail_that_a_stop_leaves_is_cut(rt: HostRuntime) {
-    in_memory(&rt, rt.alloc(), Trial::Opened(TORN.as_slice()));
+    in_memory(&rt, rt.alloc(), Trial::Opened(TORN));
 }
 
 #[test]
 fn a_file_of_other_books_is_not_opened(rt: HostRuntime) {
-    in_memory(&rt, rt.alloc(), Trial::Opened(OTHER.as_slice()));
+    in_memory(&rt, rt.alloc(), Trial::Opened(OTHER));
 }
 
 #[test]

@@ -1,7 +1,7 @@
 //! A disk that stops at each call of two days' work: the file is a beginning of the history, and opening it again makes it
 //! whole.
 
-use crate::books::{Trial, act, first_day, in_memory, opened};
+use crate::books::{Trial, act, first_day, in_memory, is_so};
 use crate::disk::{ALWAYS, Held, Stopping, disk_of};
 use crate::history::{ALL, lines, part};
 use acts_files::{ActsFault, ActsFile, NotOpened, open_beside};
@@ -65,22 +65,6 @@ fn is_beginning(bytes: &[u8], kept: usize) -> bool {
     lines().starts_with(bytes) && part(0, kept).len() <= bytes.len()
 }
 
-// What a stop leaves is opened, and then has the lines of so many acts.
-fn recovers<S: Alter>(
-    rt: &impl Abort,
-    alloc: Global,
-    books: &mut Books<S>,
-    bytes: &[u8],
-    acts: usize,
-) {
-    let disk = disk_of(rt, alloc, bytes, ALWAYS);
-    let (disk, fault) = opened(alloc, books, first_day(rt), disk);
-    let held = Held::by(rt, alloc, disk);
-    let is_whole = held.is(part(0, acts));
-    drop(held);
-    assert!(rt; fault.is_none() && is_whole, "{fault:?}");
-}
-
 /// Files on disks that stop at each call, beside the same books.
 #[derive(Drop)]
 struct Files {
@@ -112,7 +96,7 @@ impl Files {
         assert!(rt; is_beginning(held.synced.as_slice(), kept));
         for loss in LOSSES.as_slice() {
             let bytes = left(rt, alloc, &held, *loss);
-            recovers(rt, alloc, books, bytes.as_slice(), acts);
+            is_so(rt, alloc, books, bytes.as_slice(), Ok(part(0, acts)));
         }
         let is_synced = held.is(held.written.as_slice());
         self.stopped = self.stopped.saturating_add(1);

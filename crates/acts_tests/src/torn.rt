@@ -1,7 +1,7 @@
 //! Writes of lines of which a stop left a part, and files of many acts and of long ones.
 
 use crate::acting::acts_of;
-use crate::books::{Trial, act, first_day, in_memory, opened};
+use crate::books::{Trial, act, first_day, in_memory, is_so};
 use crate::disk::{ALWAYS, Held, disk_of};
 use crate::history::{ALL, lines, part};
 use acts_files::{ActsFault, open_beside};
@@ -50,25 +50,6 @@ fn torn(rt: &impl Abort, alloc: Global, had: &[u8], write: &[u8], left: Left) ->
         assert!(rt; file.push(found).is_ok());
     }
     file
-}
-
-// The file is opened and then has this text; or it is not, for this cause, and is as it was.
-fn is_so<S: Alter>(
-    rt: &impl Abort,
-    alloc: Global,
-    books: &mut Books<S>,
-    file: &[u8],
-    expected: Result<&[u8], ActsFault>,
-) {
-    let disk = disk_of(rt, alloc, file, ALWAYS);
-    let (disk, fault) = opened(alloc, books, first_day(rt), disk);
-    let held = Held::by(rt, alloc, disk);
-    let is_so = match expected {
-        Ok(text) => fault.is_none() && held.is(text),
-        Err(expected) => fault == Some(expected) && held.is(file),
-    };
-    drop(held);
-    assert!(rt; is_so, "{fault:?}");
 }
 
 fn is_torn<S: Alter>(rt: &impl Abort, alloc: Global, books: &mut Books<S>, had: usize, end: usize) {

@@ -28,33 +28,6 @@ pub struct Pair {
     db: Stored,
 }
 
-/// After how many calls each file stops.
-#[derive(Clone, Copy)]
-pub struct Calls {
-    /// The log.
-    pub log: u64,
-    /// The database.
-    pub db: u64,
-}
-
-impl Calls {
-    /// More than any work comes to.
-    pub const ALL: Calls = Calls {
-        log: u64::MAX,
-        db: u64::MAX,
-    };
-}
-
-impl Calls {
-    /// Each later call fails.
-    pub fn failures(self) -> Failures {
-        Failures {
-            log: Failure::stop(self.log),
-            db: Failure::stop(self.db),
-        }
-    }
-}
-
 /// Which calls of each file fail.
 #[derive(Clone, Copy)]
 pub struct Failures {
@@ -62,6 +35,14 @@ pub struct Failures {
     pub log: Failure,
     /// Those of the database.
     pub db: Failure,
+}
+
+impl Failures {
+    /// No call fails.
+    pub const NONE: Failures = Failures {
+        log: Failure::NONE,
+        db: Failure::NONE,
+    };
 }
 
 /// What of a file is lost that was written after its last sync.

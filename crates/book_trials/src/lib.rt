@@ -19,13 +19,13 @@ mod spread;
 
 pub use dice::Dice;
 pub use ends::{Receiver, Sender};
-pub use exchange::{Exchange, answer, logged, parted, request, text_asked, text_told};
-pub use files::{Calls, Failures, Loss, Pair, Stopping, Stored};
-pub use history::{History, made};
+pub use exchange::{Exchange, answer, text_asked, text_told};
+pub use files::{Failures, Loss, Pair, Stopping, Stored};
+pub use history::History;
 pub use lines::{Came, run_line};
 pub use opening::{closed, first_day, new_books, opened_books};
-pub use over_files::{Left, Work, after_work, over, over_failing};
+pub use over_files::{Work, after_work};
 pub use ports::free_port;
 pub use random_acts::random_requests;
-pub use rows::{QUERIES, gives, shown};
+pub use rows::{QUERIES, shown};
 pub use spread::{Spread, acts_on_each, line_of, of_act, of_numbers};

@@ -1,6 +1,6 @@
 //! Work over a connection to files in memory.
 
-use crate::files::{Calls, Failures, Pair, Stopping};
+use crate::files::{Failures, Pair, Stopping};
 use books_schema::ready_connection::{Leftover, Orderly};
 use sqlite::{Alter, Connection, Files, Options};
 use std::alloc::Global;
@@ -9,15 +9,6 @@ use std::alloc::Global;
 pub trait Work {
     /// Does it, and gives what is left of the connection.
     fn work<S: Orderly + Drop>(&mut self, conn: Connection<S>) -> Leftover<S>;
-}
-
-/// What work left.
-#[derive(Drop)]
-pub struct Left {
-    /// The files.
-    pub files: Pair,
-    /// They were opened, and closed after the work.
-    pub is_closed: bool,
 }
 
 // The one function over the connection's own type: each takes long to check.
@@ -44,41 +35,18 @@ fn worked<W: Work>(
     }
 }
 
-/// Opens a connection over the files, of whose disks these calls fail, works and closes it.
-pub fn over_failing<W: Work>(
-    alloc: Global,
-    files: &Pair,
-    failures: Failures,
-    options: Options,
-    work: &mut W,
-) -> Option<Left> {
-    let files = files.disks(alloc, failures)?;
-    let (files, is_closed) = worked(alloc, files, options, work);
-    let files = Pair::of(alloc, files)?;
-    Some(Left { files, is_closed })
-}
-
-/// The files after the work over them, where no call fails. None where they do not open, or do not close.
+/// Opens a connection over the files, works and closes it: the files after it. None where they do not open, or do not close.
 pub fn after_work<W: Work>(
     alloc: Global,
     files: &Pair,
     options: Options,
     work: &mut W,
 ) -> Option<Pair> {
-    let Left { files, is_closed } = over(alloc, files, Calls::ALL, options, work)?;
+    let files = files.disks(alloc, Failures::NONE)?;
+    let (files, is_closed) = worked(alloc, files, options, work);
+    let files = Pair::of(alloc, files)?;
     match is_closed {
         true => Some(files),
         false => None,
     }
-}
-
-/// Opens a connection over the files, whose disks stop after so many calls, works and closes it.
-pub fn over<W: Work>(
-    alloc: Global,
-    files: &Pair,
-    calls: Calls,
-    options: Options,
-    work: &mut W,
-) -> Option<Left> {
-    over_failing(alloc, files, calls.failures(), options, work)
 }

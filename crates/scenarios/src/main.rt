@@ -24,14 +24,32 @@ use std::{env, fs};
 use told::Told;
 use ways::{Way, run_scenario};
 
-// The first line says how many steps there are.
-fn count(alloc: Global, script: &Script<'_>, told: &mut Told) {
+fn tell_count(alloc: Global, number: usize, line: &str, count: usize, told: &mut Told) {
+    if let Ok(text) = format!(in alloc; "steps {count}") {
+        told.note(text.as_bytes());
+    }
+    told.fail(number, line);
+}
+
+// The first line says how many steps all scenarios have.
+fn count_all(alloc: Global, script: &Script<'_>, told: &mut Told) {
     let count = script.count(alloc);
     if count != script.said() || count.is_none() {
-        if let Ok(text) = format!(in alloc; "steps {}", count.unwrap_or(0)) {
-            told.note(text.as_bytes());
+        let first = script.lines().first().copied().unwrap_or("");
+        tell_count(alloc, 1, first, count.unwrap_or(0), told);
+    }
+}
+
+// The line that begins a part says how many steps stand behind it.
+fn count_parts(alloc: Global, script: &Script<'_>, told: &mut Told) {
+    for (at, line) in script.lines().iter().enumerate() {
+        if let Some(head) = script::begun(line) {
+            let number = at.saturating_add(1);
+            let count = script.own_count(number);
+            if head.said != Some(count) {
+                tell_count(alloc, number, line, count, told);
+            }
         }
-        told.fail(1, script.lines().first().copied().unwrap_or(""));
     }
 }
 
@@ -52,7 +70,8 @@ fn run_script(rt: &HostRuntime, script: &Script<'_>, way: Way, told: &mut Told) 
 fn run_text(rt: &HostRuntime, text: &str, way: Way, told: &mut Told) {
     match Script::of(rt.alloc(), text) {
         Some(script) => {
-            count(rt.alloc(), &script, told);
+            count_all(rt.alloc(), &script, told);
+            count_parts(rt.alloc(), &script, told);
             run_script(rt, &script, way, told);
         }
         None => told.fail(0, "no memory"),

@@ -1,5 +1,5 @@
-//! The text of scenarios: parts, each a line `## NAME` and the lines behind it. A part whose name begins with `_` is no scenario:
-//! other parts take in its lines by a line `> NAME`.
+//! The text of scenarios: parts, each a line `## NAME COUNT` and so many steps behind it. A part whose name begins with `_` is no
+//! scenario: other parts take in its lines by a line `> NAME`.
 
 use std::alloc::{AllocError, Global};
 
@@ -16,10 +16,28 @@ pub struct Script<'a> {
     lines: Vec<&'a str>,
 }
 
+/// What the line that begins a part says of it.
+#[derive(Clone, Copy)]
+pub struct Head<'a> {
+    pub name: &'a str,
+    /// How many steps stand behind the line, where it says so.
+    pub said: Option<usize>,
+}
+
+/// The part that this line begins.
+pub fn begun<'a>(line: &'a str) -> Option<Head<'a>> {
+    let rest = line.strip_prefix("## ")?;
+    let (name, count) = rest.split_once(" ").unwrap_or((rest, ""));
+    Some(Head {
+        name,
+        said: count.parse().ok(),
+    })
+}
+
 /// The name of the scenario that this line begins.
 pub fn scenario<'a>(line: &'a str) -> Option<&'a str> {
-    match line.strip_prefix("## ") {
-        Some(name) if !name.starts_with("_") => Some(name),
+    match begun(line) {
+        Some(head) if !head.name.starts_with("_") => Some(head.name),
         _ => None,
     }
 }
@@ -61,11 +79,23 @@ impl<'a> Script<'a> {
         Some(count)
     }
 
+    /// How many steps stand behind this line, up to the next part.
+    pub fn own_count(&self, from: usize) -> usize {
+        let mut count: usize = 0;
+        for line in self.lines.as_slice().iter().skip(from) {
+            if line.starts_with("## ") {
+                return count;
+            }
+            count = count.saturating_add(usize::from(is_step(line)));
+        }
+        count
+    }
+
     // The lines behind the line that begins the part of this name; none where there is no such part.
     fn part(&self, name: &str) -> Option<usize> {
         for (at, line) in self.lines.as_slice().iter().enumerate() {
-            if let Some(own) = line.strip_prefix("## ") {
-                if own == name {
+            if let Some(head) = begun(line) {
+                if head.name == name {
                     return Some(at.saturating_add(1));
                 }
             }

@@ -5,7 +5,7 @@ use crate::place::{At, Beside, End, Scene, closed_at, left_at};
 use crate::script::Step;
 use crate::steps::{AUDIT, step, whole_line};
 use crate::told::Told;
-use book_trials::{Calls, Failures, Pair, Stopping};
+use book_trials::{Failures, Pair, Stopping};
 use books_schema::ready_connection::{Leftover, Orderly};
 use sqlite::{Connection, Files, Options};
 use std::alloc::Global;
@@ -47,6 +47,8 @@ pub struct Trial<'a> {
     /// How many steps ended as they say.
     done: usize,
     is_over: bool,
+    /// A connection was opened over the files.
+    is_opened: bool,
     /// What the last audit printed.
     audit: Vec<u8>,
 }
@@ -73,6 +75,7 @@ impl<'a> Trial<'a> {
             is_again: taking.goes_on,
             done: 0,
             is_over: false,
+            is_opened: false,
             audit: Vec::new(scene.host.alloc()),
         }
     }
@@ -80,6 +83,14 @@ impl<'a> Trial<'a> {
     /// How many steps ended as they say, from the first on.
     pub fn done(&self) -> usize {
         self.done
+    }
+
+    // Tells files over which no connection opens: none of the steps was taken.
+    fn tell_opened(&mut self) {
+        if !self.is_opened {
+            let number = first_number(self.steps);
+            self.told.fail(number, "no connection opens over the files");
+        }
     }
 
     fn stepped<S: Orderly + Drop>(&mut self, at: At<S>, text: &str) -> (At<S>, End) {
@@ -171,6 +182,7 @@ impl<'a> Trial<'a> {
     pub fn run<S: Orderly + Drop>(&mut self, conn: Connection<S>) -> Option<Leftover<S>> {
         let mut at = At::Left(Leftover::Connection(conn));
         let steps = self.steps;
+        self.is_opened = true;
         if self.taking.is_audited && !is_made_first(steps) {
             at = self.audited(at);
         }
@@ -244,8 +256,8 @@ pub fn run_stretch(
 ) -> Option<(Pair, Vec<u8>)> {
     let alloc = scene.host.alloc();
     let mut trial = Trial::of(scene, steps, taking, told);
-    let failures = Calls::ALL.failures();
-    let left = after(alloc, files, failures, Options::new(1), &mut trial)?;
+    let left = after(alloc, files, Failures::NONE, Options::new(1), &mut trial)?;
+    trial.tell_opened();
     let Trial { audit, .. } = trial;
     Some((left, audit))
 }
