@@ -44,7 +44,7 @@ for it in lotd lotd-standby lotd-day lotd-backup; do unit "$it"; done
 install -m 755 ops/lotd-day ops/lotd-backup "$root/usr/bin/"
 install -m 644 ops/lotd-restart.service ops/lotd-*.timer "$root/usr/lib/systemd/system/"
 replaced ops/nginx-lotd.conf /usr/local/share/lotd /usr/share/lotd | sed '/^#   install -d/d; s/, readable by all:$/./' >"$documents/examples/nginx-lotd.conf"
-install -m 644 ops/nginx.conf "$documents/examples/"
+install -m 644 ops/nginx.conf trials/wire.txt "$documents/examples/"
 gzip -9n <docs/CHANGES.md >"$documents/changelog.gz"
 cp -r ops/page "$shared/"
 cp -r README.md docs "$documents/"

@@ -1,8 +1,8 @@
-"""Each name in the documents is one of the tree: README.md, crates/README.md and docs/*.md are read, and of each name in
-backquotes it is asked whether there is such a crate, file, folder, route, line of the program, table, column, scenario or code,
-or such a function, type, variant, field, module, clause or definition of the crates. `a::b` is asked for within one crate. Each
-page that a link leads to is there, and each heading that is named behind it. And the picture in README.md has every crate of
-crates.txt, each before those that it calls.
+"""Each name in the documents is one of the tree: README.md, docs/*.md and the README.md of the crates and of the scenarios are
+read, and of each name in backquotes it is asked whether there is such a crate, file, folder, route, line of the program, table,
+column, scenario or code, or such a function, type, variant, field, module, clause or definition of the crates. `a::b` is asked
+for within one crate. Each page that a link leads to is there, and each heading that is named behind it. And the picture in
+README.md has every crate of crates.txt, each before those that it calls.
 
 What is not found is printed with its file and line. EXCEPTIONS has the words that are of others: of the shell, of HTTP, of SQL,
 of the kit, of the page's devices. Needs python3 alone, and takes a second or two. Exit status 0 only if nothing was printed.
@@ -21,10 +21,10 @@ EXCEPTIONS = {
         requires ensures FileStore Disk Wary refl Date write_all Copy args goal c""",
     "the kit's libraries and tools": """
         std jiff jiff_core csv sqlite httparse matchit serde_json json percent_encoding http clap sqlite_disk
-        days_from_civil days_in_month RT_JOBS stdout OnOk OnErr IfErr TooBig HasCleanDisk KeepsCommit Survives
+        RT_JOBS stdout OnOk OnErr IfErr TooBig HasCleanDisk KeepsCommit Survives
         understood""",
     "words of SQL and of SQLite": "sqlite_stat1",
-    "tools of the host": "debootstrap df dmesg awk python3 cc copytruncate nice COPY ReadWritePaths SIGSEGV chromium",
+    "tools of the host": "df dmesg awk python3 copytruncate COPY SIGSEGV",
     "words of HTTP, of a browser and of a device": "Origin Esc",
     "stands for any such name in a page that tells how something is added": "judge_X change_X X_seen X_told X_changes X_posted",
 }
@@ -197,7 +197,7 @@ def unknown_in(page, number, line):
 
 def unknown():
     """What the pages name or link to, and is not there. Blocks of text are passed over."""
-    pages = ["README.md", "crates/README.md"] + sorted(path for path in FILES if re.fullmatch(r"docs/\w+\.md", path))
+    pages = ["README.md", "crates/README.md", "crates/scenarios/data/README.md"] + sorted(path for path in FILES if re.fullmatch(r"docs/\w+\.md", path))
     for page in pages:
         is_block = False
         for number, line in enumerate(text_of(page).splitlines(), 1):

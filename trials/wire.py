@@ -1,6 +1,6 @@
-"""The requests of docs/WIRE.md, "One request of each route", sent one after another to new books: each answer is that of the page,
-byte for byte, and each route of the page is among them. Needs the Rattle kit, and takes a second.
-Exit status 0 only if all was as the page says. With `print` as its word it prints the block as lotd answers it.
+"""The requests of `trials/wire.txt`, sent one after another to new books: each answer is that of the file, byte for byte, and each
+route of README.md is among them. Needs the Rattle kit, and takes a second.
+Exit status 0 only if all was as the file says. With `print` as its word it prints the file as lotd answers it.
 """
 import os
 import re
@@ -10,9 +10,10 @@ import sys
 import server
 
 lotd, room, port = server.program(), server.room(), server.number("PORT", 18086)
-with open(os.path.join(server.TOP, "docs/WIRE.md"), encoding="utf-8") as file:
+with open(os.path.join(server.TOP, "README.md"), encoding="utf-8") as file:
     page = file.read()
-block = re.search(r"## One request of each route\n.*?```\n(.*?)```", page, re.S)[1]
+with open(os.path.join(server.TOP, "trials/wire.txt"), encoding="utf-8") as file:
+    block = file.read()
 subprocess.run([lotd, "init", "--db", room + "/stock.db", "--day", "2026-05-04"], check=True)
 
 
@@ -34,8 +35,8 @@ if sys.argv[1:] == ["print"]:
 for (request, expected), got in zip(pairs, told):
     if expected != got:
         sys.exit("wire: %s: expected %r, got %r" % (request, expected, got))
-routes = set(re.findall(r"`(/[a-z]+)[`/]", page.split("## Routes")[1].split("## Codes")[0]))
+routes = set(re.findall(r"`(/[a-z]+)[`/]", page.split("## Requests")[1].split("## Limits")[0]))
 missing = routes - {re.match(r"[A-Z]+ (/[a-z]+)", request)[1] for request, _ in pairs}
 if missing:
     sys.exit("wire: no request of %s" % ", ".join(sorted(missing)))
-print("wire: %d requests of %d routes, each answered as the page says" % (len(pairs), len(routes)))
+print("wire: %d requests of %d routes, each answered as the file says" % (len(pairs), len(routes)))
