@@ -1,3 +1,4 @@
+pub mod Rows
 pub mod Walk
 pub mod Ends
 pub mod Bearing

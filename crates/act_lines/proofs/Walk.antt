@@ -19,9 +19,11 @@ use Rattle.histories.specs.Books.{row_of}
 use Rattle.histories.proofs.Printed.{line_is}
 use Rattle.histories.proofs.Walking.{Walks, IsOfActs, SoFar, all_so_far, front_all, at_next, next, later_parts, next_history, whole}
 use Rattle.act_lines.specs.Reading.{IsPart, IsLine}
-use Rattle.act_lines.specs.Known.{IsNoMisfit, Knows, EndsHere, Passes, TakesRow, Misses, StopsAt}
+use Rattle.act_lines.specs.Faults.{IsNoMisfit}
+use Rattle.act_lines.specs.Known.{Knows, EndsHere, Passes, TakesRow, Misses, StopsAt}
 use Rattle.act_lines.specs.Walked.{AtPlace, BeforeText, WithinText, BehindText, HasPassed, HasBroken, MissesLine, IsRead, IsStart}
 use Rattle.act_lines.proofs.Ends.{end_back}
+use Rattle.act_lines.proofs.Rows.{no_misfit}
 use Rattle.act_lines.specs.declared.fault.LineFault.{LineFault}
 use Rattle.act_lines.specs.declared.known.KnownLines.{KnownLines}
 use Rattle.act_lines.specs.declared.known.Place.{Place}
@@ -208,7 +210,7 @@ module _ {R : Type 0} (remaining : R → Option (List ℕ)) (left : Option (List
         let end = all_so_far first acts history (TakesRow remaining) (λ (l : KnownLines R). l.done) (HasPassed remaining left begun) walks h.taken start h.last (none_passed start is day)
         (front_all first acts history (TakesRow remaining) (λ (l : KnownLines R). l.done) (HasPassed remaining left begun) walks h.taken (h.next ∷ h.others) all) h.reached in
         elim h.stopped [
-          | inl own ↦ inl (own, broken h.last end)
+          | inl own ↦ inl (no_misfit h.last.done h.next after.fault own, broken h.last end)
           | inr miss ↦
               inr (missed after.fault h.last after h.next end (at_next first acts history (TakesRow remaining) (λ (l : KnownLines R). l.done) (HasPassed remaining left begun) walks h.taken h.others h.next all) miss.0 miss.1 miss.2 miss.3)
         ]

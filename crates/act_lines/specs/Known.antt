@@ -3,25 +3,18 @@ use Rattle.std.specs.Prelude.{◌≡◌, ◌≢◌, ◌⊎◌, ◌+◌, ℕ, ℤ
 use Rattle.std.specs.Io.KnownBytes.{Consumes, IsAtEnd}
 use Rattle.commands.specs.declared.rows.RepeatRow.{RepeatRow}
 use Rattle.histories.specs.Lines.{IsDayAfter, row_line}
+use Rattle.act_lines.specs.Faults.{IsOfRow}
 use Rattle.act_lines.specs.Reading.{IsPart, IsPiece, IsNumbered}
 use Rattle.act_lines.specs.declared.fault.LineFault.{LineFault}
 use Rattle.act_lines.specs.declared.fault.LineFault.TheVariants.{Memory, Input, Foreign, Differs, OutOfTurn}
 use Rattle.act_lines.specs.declared.known.KnownLines.{KnownLines}
 use Rattle.act_lines.specs.declared.known.Place.TheVariants.{Before, Within, Behind}
 
--- the fault tells of no line
-abbrev pub IsNoMisfit : LineFault → Type 0
-IsNoMisfit Memory = Unit {0}
-IsNoMisfit Input = Unit {0}
-IsNoMisfit Foreign = Unit {0}
-IsNoMisfit (Differs n) = ⊥
-IsNoMisfit OutOfTurn = ⊥
-
--- the line is not the one that the act of this number has: it bears the number, or it does not
+-- the line is not the one that the act of this number has: it bears the number, or it does not; or memory did not suffice
 abbrev pub IsUnlike : ℕ → (made line : List ℕ) → LineFault → Type 0
 IsUnlike n made line Memory = Unit {0}
-IsUnlike n made line Input = Unit {0}
-IsUnlike n made line Foreign = Unit {0}
+IsUnlike n made line Input = ⊥
+IsUnlike n made line Foreign = ⊥
 IsUnlike n made line (Differs m) = (m ≡ n) × IsNumbered n line × (line ≢ made)
 IsUnlike n made line OutOfTurn = line ≢ made
 
@@ -82,7 +75,7 @@ module _ {R : Type 0} (remaining : R → Option (List ℕ)) where
   -- why no further row was taken
   abbrev pub Stopped : (before : KnownLines R) → RepeatRow → (after : KnownLines R) → LineFault → Type 0
   Stopped before row after fault =
-      IsNoMisfit fault ⊎ ((row.act ≡ before.done + 1) × (day : ℤ) × IsDayAfter row.spell before.day day × Misses before row.act (row_line day row) fault after)
+      IsOfRow before.done row fault ⊎ ((row.act ≡ before.done + 1) × (day : ℤ) × IsDayAfter row.spell before.day day × Misses before row.act (row_line day row) fault after)
 
   abbrev pub StopsAt : (before : KnownLines R) → RepeatRow → (after : KnownLines R) → Type 0
   StopsAt before row after = Stopped before row after after.fault

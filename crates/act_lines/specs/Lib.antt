@@ -1,3 +1,4 @@
 pub mod Reading
+pub mod Faults
 pub mod Known
 pub mod Walked

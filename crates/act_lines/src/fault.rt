@@ -5,7 +5,7 @@ use std::alloc::AllocError;
 /// Why a line was not found to be that of an act of the books.
 #[derive(Clone, Copy, PartialEq, Eq, Debug)]
 pub enum LineFault {
-    /// Memory did not suffice.
+    /// Memory or a size did not suffice.
     Memory,
     /// The input cannot be read.
     Input,
@@ -29,9 +29,10 @@ impl From<AllocError> for LineFault {
 }
 
 impl From<ReadFault> for LineFault {
-    ghost use Rattle.act_lines.specs.Known.{IsNoMisfit};
+    ghost use Rattle.std.specs.Prelude.{◌≡◌};
+    ghost use Rattle.act_lines.specs.Faults.{unread};
 
-    ghost from_gives = { λ _ fault. IsNoMisfit fault };
+    ghost from_gives = { λ why fault. fault ≡ unread why };
 
     fn from(fault: ReadFault) -> LineFault {
         match fault {
@@ -42,14 +43,15 @@ impl From<ReadFault> for LineFault {
 }
 
 impl From<HistoryFault> for LineFault {
-    ghost use Rattle.act_lines.specs.Known.{IsNoMisfit};
+    ghost use Rattle.std.specs.Prelude.{◌≡◌};
+    ghost use Rattle.act_lines.specs.Faults.{unspelled};
 
-    ghost from_gives = { λ _ fault. IsNoMisfit fault };
+    ghost from_gives = { λ why fault. fault ≡ unspelled why };
 
     fn from(fault: HistoryFault) -> LineFault {
         match fault {
-            HistoryFault::Store => LineFault::Memory,
-            HistoryFault::Foreign | HistoryFault::Output => LineFault::Foreign,
+            HistoryFault::Store | HistoryFault::Output => LineFault::Memory,
+            HistoryFault::Foreign => LineFault::Foreign,
         }
     }
 }

@@ -4,14 +4,15 @@ ghost use Rattle.std.specs.Prelude.{◌≡◌, ◌⊎◌, ◌+◌, Err, OnOk, On
 ghost use Rattle.histories.specs.Lines.{row_line};
 ghost use Rattle.act_lines.specs.Reading.{IsNumbered};
 ghost use Rattle.act_lines.specs.declared.fault.LineFault.TheVariants.{OutOfTurn};
-ghost use Rattle.act_lines.specs.Known.{TakesRow, Looks, Stopped, Misses, IsNoMisfit, IsUnlike};
+ghost use Rattle.act_lines.specs.Faults.{IsOfRow};
+ghost use Rattle.act_lines.specs.Known.{TakesRow, Looks, Stopped, Misses, IsUnlike};
 ghost use Rattle.act_lines.specs.declared.known.Place.TheVariants.{Within as WithinText};
 
 use crate::cut::is_numbered;
 use crate::fault::LineFault;
 use crate::reading::{Ended, read_line};
 use commands::{RepeatRow, Sink, Stop};
-use histories::{act_text, day_after};
+use histories::{act_text, day_after, is_next};
 use label::Day;
 use std::alloc::Global;
 use std::io::BufRead;
@@ -71,7 +72,7 @@ impl<R: BufRead> KnownLines<R> {
         ensures passed { OnOk result (TakesRow R.remaining self.old row.now self.new) }
         ensures stopped { IfErr result (Stopped R.remaining self.old row.now self.new) }
     {
-        if self.done.checked_add(1) != Some(row.act) {
+        if !is_next(row.act, self.done) {
             return Err(LineFault::Foreign);
         }
         let day = day_after(self.alloc, self.day, row.spell.as_slice())?;
@@ -85,7 +86,7 @@ impl<R: BufRead> KnownLines<R> {
     fn look(&mut self, day: Day, row: &RepeatRow) -> Result<(), LineFault>
         ensures looked { OnOk result (Looks R.remaining self.old row.now.act (row_line day row.now) self.new) }
         ensures kept { (self.new.done ≡ self.old.done) × (self.new.day ≡ self.old.day) }
-        ensures missed { IfErr result (λ fault. IsNoMisfit fault ⊎ Misses R.remaining self.old row.now.act (row_line day row.now) fault self.new) }
+        ensures missed { IfErr result (λ fault. IsOfRow self.old.done row.now fault ⊎ Misses R.remaining self.old row.now.act (row_line day row.now) fault self.new) }
     {
         match self.place {
             Place::Behind => Ok(()),
@@ -131,7 +132,7 @@ impl<R: BufRead> KnownLines<R> {
             });
         }
         let Some(known) = self.known.checked_add(1) else {
-            return Err(LineFault::Foreign);
+            return Err(LineFault::Memory);
         };
         self.known = known;
         self.last = row.act;

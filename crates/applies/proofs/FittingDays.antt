@@ -20,7 +20,8 @@ use Rattle.histories.specs.Text.{tabbed, history_line}
 use Rattle.histories.specs.Newer.{act_line}
 use Rattle.histories.specs.Start.{told_first, start_of, first_day, IsStart}
 use Rattle.histories.proofs.Begun.{start_kept}
-use Rattle.replays.proofs.FirstDay.{untold_day, first_day_told}
+use Rattle.histories.proofs.FirstReceipt.{untold_day}
+use Rattle.replays.proofs.FirstDay.{first_day_told}
 use Rattle.replays.proofs.EarlierDays.{earlier_alike, opened_later, began_on_business, before_opened}
 use Rattle.histories.proofs.Acts.{earlier}
 use Rattle.applies.specs.Fields.{behind_tab}

@@ -1,5 +1,6 @@
 pub mod LineFields
 pub mod Texts
+pub mod Wants
 pub mod Loop
 pub mod Passed
 pub mod Walked

@@ -12,7 +12,7 @@ use Rattle.store.specs.Books.{HoldsBooks}
 use Rattle.histories.specs.Newer.{newer_text}
 use Rattle.act_lines.specs.Reading.{IsPart, IsLine}
 use Rattle.act_lines.proofs.Ends.{end_back}
-use Rattle.applies.specs.Going.{IsOfNoLine, AreCommitted, OfText}
+use Rattle.applies.specs.Going.{IsOfWant, AreCommitted, OfText}
 use Rattle.applies.specs.Lines.{IsAt, Stands, MisfitsThere, IsLineAdded, LeavesLine, AreLinesDone, LeavesLines}
 use Rattle.applies.specs.declared.applied.NotApplied.{NotApplied}
 use Rattle.applies.specs.declared.applied.NotApplied.TheVariants.{Line}
@@ -80,7 +80,7 @@ module _ {S R : Type 0} (g : Ghosts S) (remaining : R → Option (List ℕ)) (le
       (record { newer = c.newer; history = c.history; behind = next; is = refl; ended = (part, c.some, c.count); holds = c.holds; lasts = c.lasts })
 
   pub fails_behind : (at : At) (now then : R) (next : List ℕ) (books : Connected S) → Came at now books → Consumes (remaining now) (remaining then) next → (fault : NotApplied)
-      → IsOfNoLine fault ⊎ ((fault ≡ Line (at.lines + 1)) × IsPart next × (length next ≡ 8_192)) → OfText left (λ text. AreLinesDone g first begun acts line text lines (Err fault) books)
+      → IsOfWant fault ⊎ ((fault ≡ Line (at.lines + 1)) × IsPart next × (length next ≡ 8_192)) → OfText left (λ text. AreLinesDone g first begun acts line text lines (Err fault) books)
   fails_behind at now then next books c read fault why =
       told_on left (remaining then) (newer_text begun c.newer acts ++ next) (λ text. AreLinesDone g first begun acts line text lines (Err fault) books)
       (Consumes-trans left (remaining now) (remaining then) (newer_text begun c.newer acts) next c.read read)
@@ -108,7 +108,7 @@ module _ {S R : Type 0} (g : Ghosts S) (remaining : R → Option (List ℕ)) (le
       })
 
   pub fails_at : (at : At) (now : R) (last : List ℕ) (books later : Connected S) (c : Comes at now last books) (fault : NotApplied) → HoldsBooks g first (c.newer ++ acts) later
-      → IsOfNoLine fault ⊎ MisfitsThere first begun (c.newer ++ acts) at.lines last fault → OfText left (λ text. AreLinesDone g first begun acts line text lines (Err fault) later)
+      → IsOfWant fault ⊎ MisfitsThere first begun (c.newer ++ acts) at.lines last fault → OfText left (λ text. AreLinesDone g first begun acts line text lines (Err fault) later)
   fails_at at now last books later c fault holds why =
       told_on left (remaining now) (newer_text begun c.newer acts ++ last) (λ text. AreLinesDone g first begun acts line text lines (Err fault) later) c.read
       (λ rest. record {

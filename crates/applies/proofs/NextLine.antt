@@ -20,7 +20,7 @@ use Rattle.replays.specs.declared.fault.NotReplayed.{NotReplayed}
 use Rattle.replays.specs.declared.fault.NotReplayed.TheVariants as again
 use Rattle.replays.proofs.Steps.{goes_on_history}
 use Rattle.applies.specs.Fields.{Reads}
-use Rattle.applies.specs.Going.{IsOfNoLine}
+use Rattle.applies.specs.Going.{IsOfWant}
 use Rattle.applies.specs.Lines.{next_line, act_of, IsNext, IsNoNext, IsPlaced, IsNotDone, IsAt, MisfitsThere, IsLineAdded, LeavesLine}
 use Rattle.applies.specs.declared.applied.NotApplied.{NotApplied}
 use Rattle.applies.specs.declared.applied.NotApplied.TheVariants as told
@@ -65,11 +65,11 @@ module _ (first begun : ℤ) (acts : List Act) (line : List ℕ) (at : At) (is :
 
     -- it was not
     pub wrong : {S : Type 0} (g : Ghosts S) (books : Connected S) (fault : NotReplayed) (why : NotApplied) → IsReplayed g first acts (act_of next) next.number (Err fault) books → IsNotDone fault next.line why
-        → IsOfNoLine why ⊎ MisfitsThere first begun acts at.lines line why
+        → IsOfWant why ⊎ MisfitsThere first begun acts at.lines line why
     wrong g books (again.Unspelled n) why h t = absurd (true≢false (sym own.sound.kind ∙ h.1))
     wrong g books (again.Refused n cause) why h t =
         inr (subst (MisfitsThere first begun acts at.lines line) (sym t) (h.0 ∙ number_is, record { act = act_of next; sound = own.sound; is = line_is; refused = h.2 }))
-    wrong g books again.Store why h t = inl (subst IsOfNoLine (sym t) tt)
+    wrong g books again.Store why h t = inl (subst IsOfWant (sym t) tt)
     wrong g books again.Foreign why h t = absurd h
 
     by_outcome : (trees : Trees) (o : Outcome) → outcome first acts (act_of next) ≡ o → IsHistory first acts → AreBooks first (appended (act_of next) acts o) trees → LeavesLine first begun acts line trees

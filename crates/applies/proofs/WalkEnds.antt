@@ -10,7 +10,7 @@ use Rattle.store.specs.Handing.{HandsRecords, NoBooks}
 use Rattle.store.specs.declared.fault.Fault.{Fault}
 use Rattle.store.specs.declared.fault.Fault.TheVariants as store
 use Rattle.store.specs.declared.each_fault.EachFault.TheVariants as each
-use Rattle.act_lines.specs.Known.{IsNoMisfit}
+use Rattle.act_lines.specs.Faults.{IsNoMisfit}
 use Rattle.act_lines.specs.Walked.{HasBroken, MissesLine}
 use Rattle.act_lines.specs.declared.fault.LineFault.{LineFault}
 use Rattle.act_lines.specs.declared.fault.LineFault.TheVariants as line

@@ -1,6 +1,6 @@
 -- What taking in lines of a history comes to.
 use Rattle.std.proofs.Common.{◌≡◌, ◌⊎◌, ◌++◌, ℕ, List, [], Ok, Err, Result, Option, Some, None, refl, sym, ap, subst, ◌∙◌, inl, inr}
-use Rattle.std.specs.Prelude.{ℤ, IfSome}
+use Rattle.std.specs.Prelude.{ℤ, IfSome, IfErr}
 use Rattle.std.specs.Io.Buffered.{reader_remaining, reader_capacity, reader_buffer, reader_inner}
 use Rattle.std.specs.declared.io.buffered.BufReader.{BufReader}
 use Rattle.std.specs.Io.KnownBytes.{prepend_known}
@@ -12,7 +12,7 @@ use Rattle.machine.specs.Acts.{Act}
 use Rattle.machine.specs.Once.{IsHistory}
 use Rattle.store.specs.Connected.{Connected}
 use Rattle.store.specs.Books.{AreBooks, HoldsBooks, IsClean, LeavesOnly, MayLeave}
-use Rattle.applies.specs.Going.{OfText}
+use Rattle.applies.specs.Going.{OfText, IsOfRows}
 use Rattle.applies.specs.Applying.{IsApplied, LeavesOneOf}
 use Rattle.applies.specs.Taken.{IsTaken}
 use Rattle.applies.specs.declared.applied.Applied.{Applied}
@@ -44,6 +44,7 @@ module _ {S : Type 0} (g : Ghosts S) (first : ℤ) (acts : List Act) where
   went_too known from end books has w = record {
     applied = of_named known from (λ text. IsApplied g first acts text end books) has w.applied;
     every = if_named known from (λ text. IsTaken g first acts text end books) has w.every;
+    foreign = w.foreign;
     leaves = λ trees left. left_too trees (w.leaves trees left);
   }
     where
@@ -60,9 +61,10 @@ module _ {S : Type 0} (g : Ghosts S) (first : ℤ) (acts : List Act) where
   pub went_on : (read from : Option (List ℕ)) (was books : Connected S) (end : Result Applied NotApplied) → read ≡ from → IsClean g books → IsHistory first acts → HoldsBooks g first acts was
       → LeavesOnly first acts (state g was.conn) → OfText read (λ text. IsApplied g first acts text end books)
       → IfSome read (λ text. IsTaken g first acts text end books)
+      → IfErr end (IsOfRows g books)
       → Survives (state g was.conn) (state g books.conn) (λ trees. (f : ℤ) (a : List Act) → IsHistory f a → HoldsBooks g f a was → OfText read (λ text. LeavesOneOf f a text trees)) → Went g first acts from end books
-  went_on read from was books end same clean history holds only applied every survives =
-      subst (λ r. Went g first acts r end books) same (record { applied = applied; every = every; leaves = λ trees left. by trees (survives.crash clean trees left) })
+  went_on read from was books end same clean history holds only applied every foreign survives =
+      subst (λ r. Went g first acts r end books) same (record { applied = applied; every = every; foreign = foreign; leaves = λ trees left. by trees (survives.crash clean trees left) })
     where
       by : (trees : Trees) → MayLeave g was trees ⊎ ((f : ℤ) (a : List Act) → IsHistory f a → HoldsBooks g f a was → OfText read (λ text. LeavesOneOf f a text trees))
           → AreBooks first acts trees ⊎ OfText read (λ text. LeavesOneOf first acts text trees)

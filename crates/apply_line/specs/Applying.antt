@@ -1,5 +1,5 @@
 -- What taking in lines of a history does to the books, and what is told of it.
-use Rattle.std.specs.Prelude.{◌≡◌, ◌⊎◌, ◌++◌, ℕ, ℤ, List, codes, decimal, Option, IfSome, Result, Ok, Err}
+use Rattle.std.specs.Prelude.{◌≡◌, ◌⊎◌, ◌++◌, ℕ, ℤ, List, codes, decimal, Option, IfSome, IfErr, Result, Ok, Err}
 use Rattle.std.specs.Io.KnownBytes.{Appends}
 use Rattle.sqlite_trees.specs.declared.store.Store.{Ghosts}
 use Rattle.sqlite_trees.specs.Tree.{Trees}
@@ -8,7 +8,7 @@ use Rattle.machine.specs.Acts.{Act}
 use Rattle.machine.specs.Once.{IsHistory}
 use Rattle.store.specs.Connected.{Connected}
 use Rattle.store.specs.Books.{AreBooks, KeepsBooks, HoldsBooks, LeavesOnly, MayLeave}
-use Rattle.applies.specs.Going.{OfText}
+use Rattle.applies.specs.Going.{OfText, IsOfRows}
 use Rattle.applies.specs.Applying.{IsApplied, LeavesOneOf}
 use Rattle.applies.specs.Taken.{IsTaken}
 use Rattle.applies.specs.declared.applied.Applied.{Applied}
@@ -45,10 +45,12 @@ IsEndTold (Err why) old new end = (end ≡ Err (fault_of why)) × (new ≡ old)
 
 module _ {S : Type 0} (g : Ghosts S) (first : ℤ) (acts : List Act) where
   -- The lines of a text, which has these bytes where they are known, went so over the books of the acts. Lines of a history that
-  -- goes on with those acts were all taken. A stop leaves the books of the acts, or of those and the first new ones.
+  -- goes on with those acts were all taken. The books are told to be foreign only where the rows of the acts are out of turn. A stop
+  -- leaves the books of the acts, or of those and the first new ones.
   pub record Went (from : Option (List ℕ)) (end : Result Applied NotApplied) (books : Connected S) : Type 0 where
     pub applied : OfText from (λ text. IsApplied g first acts text end books)
     pub every : IfSome from (λ text. IsTaken g first acts text end books)
+    pub foreign : IfErr end (IsOfRows g books)
     pub leaves : (trees : Trees) → MayLeave g books trees → AreBooks first acts trees ⊎ OfText from (λ text. LeavesOneOf first acts text trees)
 
   -- no line was read, and the books are those of the acts

@@ -3,6 +3,7 @@ pub mod EndLemmas
 pub mod GrowLemmas
 pub mod CreateLemmas
 pub mod OpenLemmas
+pub mod NeverRun
 pub mod IndexTexts
 pub mod IndexLemmas
 pub mod SettleLemmas

@@ -1,4 +1,6 @@
 pub mod Acts
+pub mod FirstReceipt
+pub mod InTurn
 pub mod Walking
 pub mod Printed
 pub mod Begun

@@ -15,7 +15,7 @@ use Rattle.machine.specs.Tables.{repeat_row}
 use Rattle.texts.specs.Writing.{AppendsBeginning}
 use Rattle.texts.proofs.Beginnings.{beginning_of_first, beginning_of_second}
 use Rattle.histories.specs.Text.{history_line, history_text}
-use Rattle.histories.specs.Lines.{IsDayAfter, row_line, AddsLine, CutsLine}
+use Rattle.histories.specs.Lines.{IsDayAfter, row_line, AddsLine, StopsLine}
 use Rattle.histories.specs.declared.lines.HistoryLines.{HistoryLines}
 use Rattle.histories.proofs.Walking.{Walks, IsOfActs, SoFar, all_so_far, front_all, at_next, next, later_parts, next_history, whole}
 
@@ -80,13 +80,13 @@ module _ {W : Type 0} (contents : W → Option (List ℕ)) (first begun : ℤ) (
       begun_text begun acts end.newer end.older (contents start.out) (contents after.out) end.parts (whole_beginning (contents start.out) (contents after.out) (history_text begun end.older) end.keeps.1)
 
   -- and a part of the next line
-  pub cut_written : (rows : List RepeatRow) (after : HistoryLines W) → Goes start → AllByRecursion Mine rows → StopsWithin (AddsLine contents) (CutsLine contents) start rows after
+  pub cut_written : (rows : List RepeatRow) (after : HistoryLines W) → Goes start → AllByRecursion Mine rows → StopsWithin (AddsLine contents) (StopsLine contents) start rows after
       → AppendsBeginning (contents start.out) (contents after.out) (history_text begun acts)
   cut_written rows after from mine h =
       let all = subst (AllByRecursion Mine) h.parts mine in
       let end = all_so_far first acts history (AddsLine contents) (λ (l : HistoryLines W). l.done) Written writes h.taken start h.last from
       (front_all first acts history (AddsLine contents) (λ (l : HistoryLines W). l.done) Written writes h.taken (h.next ∷ h.others) all) h.reached in
-      elim h.stopped [
+      elim h.stopped.0 [
         | inl none ↦
             begun_text begun acts end.newer end.older (contents start.out) (contents after.out) end.parts
             (subst (AppendsBeginning (contents start.out) (contents after.out)) (append-nil (history_text begun end.older))

@@ -23,7 +23,7 @@ module _ (a b c : State) (one : Survives a b (λ _. ¬ IsReady a.now)) (two : Su
   pub was_clean : HasCleanDisk c → HasCleanDisk b
   was_clean clean = omega (arith, clean, two.clean)
 
-  shown : HasCleanDisk c → IsReady a.now → b.now ≡ a.now
+  pub shown : HasCleanDisk c → IsReady a.now → b.now ≡ a.now
   shown clean ready = (same (was_clean clean) ready).0.now_is
 
   pub ready_on : HasCleanDisk c → IsReady a.now → IsReady b.now

@@ -8,10 +8,12 @@ mod lines;
 mod printing;
 mod spelled;
 mod start;
+mod turn;
 
 pub use fault::HistoryFault;
 pub use first_start::FirstStart;
 pub use line::act_text;
 pub use lines::{HistoryLines, day_after, day_then};
-pub use printing::{print_above, print_history};
+pub use printing::print_history;
 pub use start::CardDay;
+pub use turn::is_next;

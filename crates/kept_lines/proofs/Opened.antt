@@ -1,6 +1,10 @@
 -- A file that is opened beside the books, whose acts began on a day that was found.
-use Rattle.std.proofs.Common.{List, refl, inl, inr}
-use Rattle.std.specs.Prelude.{ℤ, IsTrue, Result, Ok, Err, OnOk, IfErr}
+use Rattle.std.proofs.Common.{◌≡◌, ℕ, List, [], append-nil, refl, sym, subst, inl, inr, Option}
+use Rattle.std.specs.Prelude.{ℤ, IsTrue, Result, Ok, Err, IfErr}
+use Rattle.std.specs.Io.KnownBytes.{Appends}
+use Rattle.std.proofs.KnownBytes.{Appends-nil}
+use Rattle.texts.specs.Writing.{Writes}
+use Rattle.texts.proofs.Beginnings.{beginning_of_none}
 use Rattle.sqlite_disk.specs.declared.Disk.{Ghosts}
 use Rattle.sqlite_trees.specs.declared.store.Store.{Ghosts as StoreGhosts}
 use Rattle.sqlite.specs.Held.{state}
@@ -21,10 +25,14 @@ use Rattle.acts_files.proofs.Opens.{not_told, opened_from, not_opened_from}
 use Rattle.kept_lines.specs.Beside.{FitsFile, IsOpenedBeside, IsNotOpenedBeside}
 use Rattle.kept_lines.proofs.OwnDays.{own_taken}
 
--- it holds of whatever result
-pub whatever : {X E : Type 0} {P : Type 0} (r : Result X E) → P → OnOk r P
-whatever (Ok x) p = p
-whatever (Err e) p = tt
+-- what was told whole is told as the line ends, however that is
+pub told_then : {X E : Type 0} (old new : Option (List ℕ)) (text : List ℕ) (r : Result X E) → Appends old new text → Writes r old new text
+told_then old new text (Ok x) told = told
+told_then old new text (Err e) told = record { front = text; rest = []; parts = sym (append-nil text); written = told }
+
+-- and where nothing was told, a fault is
+pub none_told : {X E : Type 0} (same : Option (List ℕ)) (text : List ℕ) (r : Result X E) (fault : E) → r ≡ Err fault → Writes r same same text
+none_told same text r fault is = subst (λ e. Writes e same same text) (sym is) (beginning_of_none same same text (Appends-nil same))
 
 -- where both hold of an error, what follows from them does
 pub on_err_both : {X E : Type 0} {P Q R : E → Type 0} (r : Result X E) → IfErr r P → IfErr r Q → ((e : E) → P e → Q e → R e) → IfErr r R

@@ -16,21 +16,21 @@ use Rattle.house.specs.declared.keeping.KeepFault.TheVariants as keep
 use Rattle.house.specs.House.{IsOneFurther, LeavesBooks}
 use Rattle.house.proofs.Adding.{step_adds}
 use Rattle.house.proofs.Stepping.{leaves_none}
-use Rattle.service.specs.Serving.{AreLogged, KeepsLogged}
-use Rattle.service.specs.Kept.{AreKept}
+use Rattle.service.specs.Serving.{AreLogged, KeepsLogged, sent_by}
+use Rattle.service.specs.Kept.{AreKept, sent_till}
 use Rattle.service.specs.declared.serve.Stopped.{Stopped}
 use Rattle.service.specs.declared.serve.Stopped.TheVariants.{Log, Unkept}
 use Rattle.kept_lines.specs.Faults.{end_of}
-use Rattle.kept_lines.specs.Kept.{keeps_acts, begins_acts, HasActs, BeginsActs, StopLeaves}
+use Rattle.kept_lines.specs.Kept.{keeps_acts, leaves_acts, HasActs, LeavesActs, StopLeaves}
 use Rattle.kept_lines.specs.Serving.{kept_of, IsPortServed, IsServedBeside}
 use Rattle.kept_lines.specs.declared.kept_acts.KeptActs.{KeptActs}
-use Rattle.kept_lines.proofs.Kept.{has_acts, begins_with, has_then_begins, oldest_then, stop_leaves}
+use Rattle.kept_lines.proofs.Kept.{has_acts, has_then_leaves, oldest_then, stop_leaves}
 
 -- nobody was served where the file was refused
 pub refused_logged : {S : Type 0} (s : StoreGhosts S) (first : ℤ) (acts : List Act) (max : ℕ) (conn : Held S) (asked : Bool) (fault : Fault) (end : Result Unit Fault) (log : Option (List ℕ)) → end ≡ Err fault → IsHistory first acts
-    → KeepsBooks first acts (state s conn) → LeavesOnly first acts (state s conn) → KeepsLogged s first acts max conn asked end log log
+    → KeepsBooks first acts (state s conn) → LeavesOnly first acts (state s conn) → KeepsLogged s first acts max conn asked sent_by end log log
 refused_logged s first acts max conn asked fault end log is history keeps leaves =
-    subst (λ e. KeepsLogged s first acts max conn asked e log log) (sym is) (
+    subst (λ e. KeepsLogged s first acts max conn asked sent_by e log log) (sym is) (
       record {
         texts = [];
         answers = [];
@@ -46,10 +46,10 @@ refused_logged s first acts max conn asked fault end log is history keeps leaves
 
 module _ {S : Type 0} (s : StoreGhosts S) (first : ℤ) (acts : List Act) (max : ℕ) (asked : Bool) (old new : Option (List ℕ)) where
   -- the log, as the line ends
-  pub logged_as : (conn : Held S) (stopped : Result Unit Stopped) → KeepsLogged s first acts max conn asked stopped old new → KeepsLogged s first acts max conn asked (end_of stopped) old new
+  pub logged_as : (conn : Held S) (stopped : Result Unit Stopped) → KeepsLogged s first acts max conn asked sent_till stopped old new → KeepsLogged s first acts max conn asked sent_by (end_of stopped) old new
   logged_as conn stopped r = (r.0, λ is. so stopped (r.1 is))
     where
-      so : (e : Result Unit Stopped) → AreLogged e old new r.0.texts r.0.answers → AreLogged (end_of e) old new r.0.texts r.0.answers
+      so : (e : Result Unit Stopped) → AreLogged sent_till e old new r.0.texts r.0.answers → AreLogged sent_by (end_of e) old new r.0.texts r.0.answers
       so (Ok done) h = h
       so (Err Log) h = h
       so (Err (Unkept keep.Place)) h = h
@@ -64,8 +64,8 @@ further first older after told trees history oldest (inr one) =
 
 module _ {S D : Type 0} (s : StoreGhosts S) (g : Ghosts D) (first : ℤ) (acts : List Act) (begun : ℤ) where
   -- what is kept of the acts is on the disk under the file
-  abbrev on_disk : (stopped : Result Unit Stopped) (texts answers : List (List ℕ)) (after : List Act) (kept : KeptActs D) → AreKept s (keeps_acts g) (begins_acts g) first acts stopped begun texts answers after kept
-      → AreKept s (HasActs g) (BeginsActs g) first acts stopped begun texts answers after kept.file.disk
+  abbrev on_disk : (stopped : Result Unit Stopped) (texts answers : List (List ℕ)) (after : List Act) (kept : KeptActs D) → AreKept s (keeps_acts g) (leaves_acts g) first acts stopped begun texts answers after kept
+      → AreKept s (HasActs g) (LeavesActs g) first acts stopped begun texts answers after kept.file.disk
   on_disk (Ok done) texts answers after kept h = has_acts g begun after kept.file h
   on_disk (Err Log) texts answers after kept h = has_acts g begun after kept.file h
   on_disk (Err (Unkept fault)) texts answers after kept h = record {
@@ -78,22 +78,22 @@ module _ {S D : Type 0} (s : StoreGhosts S) (g : Ghosts D) (first : ℤ) (acts :
     before = h.before;
     run = h.run;
     step = h.step;
-    left = begins_with g begun h.before kept.file h.left;
+    left = h.left;
   }
 
   stops : (stopped : Result Unit Stopped) (texts answers : List (List ℕ)) (after : List Act) (told : List (List ℕ × List ℕ)) (conn : Held S) (disk : D) → IsHistory first after → LeavesBooks first after told (state s conn)
-      → (kept : AreKept s (HasActs g) (BeginsActs g) first acts stopped begun texts answers after disk) → StopLeaves s g first begun (kept_of s g first acts begun stopped texts answers after disk kept) conn disk
+      → (kept : AreKept s (HasActs g) (LeavesActs g) first acts stopped begun texts answers after disk) → StopLeaves s g first begun (kept_of s g first acts begun stopped texts answers after disk kept) conn disk
   stops (Ok done) texts answers after told conn disk history leaves h =
-      stop_leaves s g first begun conn disk after (has_then_begins g begun disk after h) (λ trees left. further first after after told trees history ([], refl) (leaves trees left))
+      stop_leaves s g first begun conn disk after after (has_then_leaves g begun disk after h) (λ trees left. further first after after told trees history ([], refl) (leaves trees left))
   stops (Err Log) texts answers after told conn disk history leaves h =
-      stop_leaves s g first begun conn disk after (has_then_begins g begun disk after h) (λ trees left. further first after after told trees history ([], refl) (leaves trees left))
+      stop_leaves s g first begun conn disk after after (has_then_leaves g begun disk after h) (λ trees left. further first after after told trees history ([], refl) (leaves trees left))
   stops (Err (Unkept fault)) texts answers after told conn disk history leaves h =
-      stop_leaves s g first begun conn disk h.before h.left (λ trees left. further first h.before after told trees history (step_adds first h.before h.text h.bytes after h.step) (leaves trees left))
+      stop_leaves s g first begun conn disk h.before after h.left (λ trees left. further first after after told trees history ([], refl) (leaves trees left))
 
   -- a port that was served, and whose file was given back
   pub served_beside : (max : ℕ) (was books : Connected S) (asked : Bool) (end : Result Unit Fault) (old new : Option (List ℕ)) (file : ActsFile D) (kept : KeptActs D)
       → LeavesOnly first acts (state s was.conn) → KeepsActs g begun acts file
-      → IsPortServed s (keeps_acts g) (begins_acts g) first acts max was books asked end old new (record { file = file }) kept → IsServedBeside s g first acts begun max books.conn asked end old new kept.file.disk
+      → IsPortServed s (keeps_acts g) (leaves_acts g) first acts max was books asked end old new (record { file = file }) kept → IsServedBeside s g first acts begun max books.conn asked end old new kept.file.disk
   served_beside max was books asked end old new file kept leaves keeps served =
       let r = served.2.0.0 in
       let left = r.runs.kept [] (leaves_none first acts (state s was.conn) leaves) in
@@ -120,10 +120,10 @@ module _ {S D : Type 0} (s : StoreGhosts S) (g : Ghosts D) (first : ℤ) (acts :
 
   -- the books after it, whatever is kept
   pub run_logged : (max : ℕ) (was books : Connected S) (asked : Bool) (end : Result Unit Fault) (old new : Option (List ℕ)) (before after : KeptActs D) → LeavesOnly first acts (state s was.conn)
-      → IsPortServed s (keeps_acts g) (begins_acts g) first acts max was books asked end old new before after → KeepsLogged s first acts max books.conn asked end old new
+      → IsPortServed s (keeps_acts g) (leaves_acts g) first acts max was books asked end old new before after → KeepsLogged s first acts max books.conn asked sent_by end old new
   run_logged max was books asked end old new before after leaves served =
       let r = served.2.0.0 in
-      subst (λ e. KeepsLogged s first acts max books.conn asked e old new) (sym served.1)
+      subst (λ e. KeepsLogged s first acts max books.conn asked sent_by e old new) (sym served.1)
       (logged_as s first acts max asked old new books.conn served.0 (
         record {
           texts = r.texts;

@@ -21,7 +21,7 @@ use Rattle.command_line.specs.declared.fault.Fault.{Fault}
 use Rattle.command_line.specs.declared.fault.Fault.TheVariants.{Io}
 use Rattle.service.specs.Importing.{AreRead, IsTakenIn, LeavesFile, tally_line}
 use Rattle.kept_lines.specs.Faults.{fault_of_acts}
-use Rattle.kept_lines.specs.Kept.{HasActs, BeginsActs, StopLeaves}
+use Rattle.kept_lines.specs.Kept.{HasActs, LeavesActs, StopLeaves}
 use Rattle.kept_lines.specs.Beside.{IsOpenedBeside, IsRefusedBeside}
 
 -- the tally was printed, or the output could not be written
@@ -29,10 +29,10 @@ abbrev pub IsTallyTold : Tally → Result Unit Fault → (old new : Option (List
 IsTallyTold tally (Ok done) old new = Appends old new (tally_line tally.accepted tally.repeated)
 IsTallyTold tally (Err fault) old new = fault ≡ Io
 
--- All acts are kept, and then the tally is told. Or they could not be kept, and nothing is printed: a stop leaves at least those before.
--- What is told then is no act in which the file and the books part.
-abbrev pub IsTallyEnd : (Keeps Begins : Type 0) → Tally → Result Unit Fault → (old new : Option (List ℕ)) → Type 0
-IsTallyEnd Keeps Begins tally end old new = (Keeps × IsTallyTold tally end old new) ⊎ (Begins × ((fault : ActsFault) × IsNoMisfit fault × (end ≡ Err (fault_of_acts fault))) × (new ≡ old))
+-- All acts are kept, and then the tally is told. Or they could not be kept, and nothing is printed: a stop leaves those before, some of
+-- those after and part of what was being added. What is told then is no act in which the file and the books part.
+abbrev pub IsTallyEnd : (Keeps Leaves : Type 0) → Tally → Result Unit Fault → (old new : Option (List ℕ)) → Type 0
+IsTallyEnd Keeps Leaves tally end old new = (Keeps × IsTallyTold tally end old new) ⊎ (Leaves × ((fault : ActsFault) × IsNoMisfit fault × (end ≡ Err (fault_of_acts fault))) × (new ≡ old))
 
 module _ {S : Type 0} (s : StoreGhosts S) (first : ℤ) (acts : List Act) where
   -- the rows of the file, which has these bytes where they are known, are in the books, now and after a stop
@@ -48,13 +48,13 @@ module _ {S : Type 0} (s : StoreGhosts S) (first : ℤ) (acts : List Act) where
   pub record IsUntaken (from : Option (List ℕ)) (end : Result Unit Fault) (books : Connected S) : Type 0 where
     pub why : (end ≡ Err Io) ⊎ ((fault : Fault) × (end ≡ Err fault) × IsTakenIn s first acts from (Err fault) books)
     pub holds : HoldsBooks s first acts books
-    pub leaves : LeavesFile first acts (state s books.conn)
+    pub leaves : LeavesFile s first acts from (state s books.conn)
 
   -- the file was taken in, and what it did is kept before it is told; or it was not, and nothing is told. `Keeps` says that these acts
-  -- are kept, `Begins` that a stop leaves at least those before.
-  abbrev pub IsImportedBeside : (Keeps : List Act → Type 0) → (Begins : Type 0) → (from : Option (List ℕ)) → Result Unit Fault → Connected S → (old new : Option (List ℕ)) → Type 0
-  IsImportedBeside Keeps Begins from end books old new =
-      ((tally : Tally) × (t : IsTaken from tally books) × IsTallyEnd (Keeps (acts_after_file first acts (rows_of t.rows))) Begins tally end old new)
+  -- are kept, `Leaves` what a stop leaves where they could not be.
+  abbrev pub IsImportedBeside : (Keeps Leaves : List Act → Type 0) → (from : Option (List ℕ)) → Result Unit Fault → Connected S → (old new : Option (List ℕ)) → Type 0
+  IsImportedBeside Keeps Leaves from end books old new =
+      ((tally : Tally) × (t : IsTaken from tally books) × IsTallyEnd (Keeps (acts_after_file first acts (rows_of t.rows))) (Leaves (acts_after_file first acts (rows_of t.rows))) tally end old new)
       ⊎ (IsUntaken from end books × (new ≡ old) × Keeps acts)
 
 -- the acts that are kept after an import: those after the file, or those before it
@@ -64,7 +64,7 @@ kept_of after before (inr unkept) = before
 
 module _ {S D : Type 0} (s : StoreGhosts S) (g : Ghosts D) (first : ℤ) (acts : List Act) where
   abbrev pub import_keeps : (begun : ℤ) (from : Option (List ℕ)) (end : Result Unit Fault) (books : Connected S) (old new : Option (List ℕ)) (disk : D)
-      → IsImportedBeside s first acts (HasActs g disk begun) (BeginsActs g disk begun acts) from end books old new → List Act
+      → IsImportedBeside s first acts (HasActs g disk begun) (LeavesActs g disk begun acts) from end books old new → List Act
   import_keeps begun from end books old new disk (inl t) = kept_of (acts_after_file first acts (rows_of t.1.rows)) acts t.2
   import_keeps begun from end books old new disk (inr u) = acts
 
@@ -72,7 +72,7 @@ module _ {S D : Type 0} (s : StoreGhosts S) (g : Ghosts D) (first : ℤ) (acts :
   pub record IsImportDone (begun : ℤ) (from : Option (List ℕ)) (conn : Held S) (end : Result Unit Fault) (old new : Option (List ℕ)) (disk : D) : Type 0 where
     pub books : Connected S
     pub is : conn ≡ books.conn
-    pub imported : IsImportedBeside s first acts (HasActs g disk begun) (BeginsActs g disk begun acts) from end books old new
+    pub imported : IsImportedBeside s first acts (HasActs g disk begun) (LeavesActs g disk begun acts) from end books old new
     pub stop : StopLeaves s g first begun (import_keeps begun from end books old new disk imported) conn disk
 
   -- the file of the acts was refused, and nothing was done or told; or it was opened, and the goods-in file imported

@@ -1,5 +1,5 @@
 -- What a file keeps of the acts of books. `g` is what the file's type means by what a read returns and by what a stop may leave.
-use Rattle.std.specs.Prelude.{◌≡◌, ℕ, ℤ, List, ◌++◌, Bool, IsTrue}
+use Rattle.std.specs.Prelude.{◌≡◌, ◌≤◌, ℕ, ℤ, List, ◌++◌, length, Bool, IsTrue}
 use Rattle.sqlite_disk.specs.declared.Disk.{Ghosts}
 use Rattle.sqlite_trees.specs.declared.store.Store.{Ghosts as StoreGhosts}
 use Rattle.sqlite_trees.specs.Tree.{Trees}
@@ -7,9 +7,11 @@ use Rattle.sqlite.specs.Held.{Held, state}
 use Rattle.machine.specs.Acts.{Act}
 use Rattle.machine.specs.Once.{IsHistory}
 use Rattle.histories.specs.Text.{history_text}
+use Rattle.histories.specs.Newer.{newer_text}
 use Rattle.store.specs.Books.{AreBooks}
-use Rattle.acts_files.specs.Kept.{HasText, BeginsWith}
-use Rattle.acts_files.specs.KeptActs.{KeepsActs, BeginsWithActs, HoldsText, AreOldest}
+use Rattle.acts_files.specs.Kept.{HasText}
+use Rattle.acts_files.specs.KeptActs.{KeepsActs, BeginsWithActs, HasAdded, HoldsText, AreOldest}
+use Rattle.acts_files.specs.declared.acts_file.ActsFile.{ActsFile}
 use Rattle.kept_lines.specs.declared.kept_acts.KeptActs.{KeptActs}
 
 -- the file keeps these acts, begun on this day
@@ -20,7 +22,17 @@ keeps_acts g kept begun acts = KeepsActs g begun acts kept.file
 abbrev pub begins_acts : {D : Type 0} → Ghosts D → KeptActs D → ℤ → List Act → Type 0
 begins_acts g kept begun acts = BeginsWithActs g begun acts kept.file
 
--- and with this text, whatever it is
+-- of acts that go on from those before, the lines of some were added behind theirs, and part of those of the next ones
+abbrev pub LeavesActs : {D : Type 0} → Ghosts D → D → ℤ → (before after : List Act) → Type 0
+LeavesActs g disk begun before after = (newer : List Act) × (after ≡ newer ++ before) × HasAdded g begun newer before disk
+
+abbrev pub leaves_file : {D : Type 0} → Ghosts D → ℤ → (before : List Act) → ActsFile D → (after : List Act) → Type 0
+leaves_file g begun before file after = LeavesActs g file.disk begun before after
+
+abbrev pub leaves_acts : {D : Type 0} → Ghosts D → KeptActs D → ℤ → (before after : List Act) → Type 0
+leaves_acts g kept begun before after = LeavesActs g kept.file.disk begun before after
+
+-- whatever a stop leaves of it begins with this text, whatever it is
 abbrev pub has_text : {D : Type 0} → Ghosts D → KeptActs D → List ℕ → Type 0
 has_text g kept text = HoldsText g kept.file text
 
@@ -32,11 +44,20 @@ has_clean_file g kept = g.is_clean kept.file.disk
 abbrev pub HasActs : {D : Type 0} → Ghosts D → D → ℤ → List Act → Type 0
 HasActs g disk begun acts = IsTrue (g.is_clean disk) → (len : ℕ) × HasText g (history_text begun acts) len disk
 
--- whatever a stop leaves of it begins with them
-abbrev pub BeginsActs : {D : Type 0} → Ghosts D → D → ℤ → List Act → Type 0
-BeginsActs g disk begun acts = IsTrue (g.is_clean disk) → BeginsWith g (history_text begun acts) disk
+-- Of the acts of books, the text has the lines of the oldest, at least of these, and behind them at most as many bytes as the lines of
+-- the next ones have, a thousand at most.
+pub record HasOldest (begun : ℤ) (least all : List Act) (text : List ℕ) : Type 0 where
+  pub oldest : List Act
+  pub next : List Act
+  pub rest : List ℕ
+  pub enough : AreOldest least oldest
+  pub are : AreOldest (next ++ oldest) all
+  pub few : length next ≤ 1_000
+  pub is : text ≡ history_text begun oldest ++ rest
+  pub short : length rest ≤ length (newer_text begun next oldest)
 
--- Whatever a stop leaves of the books and of the file at one moment: books of these acts or more, and the lines of these first.
+-- Whatever a stop leaves of the books and of the file at one moment: books of some acts, and the lines of the oldest of these, at least
+-- of the acts that were kept.
 abbrev pub StopLeaves : {S D : Type 0} → StoreGhosts S → Ghosts D → (first begun : ℤ) → (older : List Act) → Held S → D → Type 0
 StopLeaves s g first begun older conn disk = IsTrue (g.is_clean disk) → (trees : Trees) (c : List ℕ) → (state s conn).may_leave trees → g.may_leave disk c
-    → (kept : List Act) × IsHistory first kept × AreBooks first kept trees × AreOldest older kept × (rest : List ℕ) × (c ≡ history_text begun older ++ rest)
+    → (all : List Act) × IsHistory first all × AreBooks first all trees × HasOldest begun older all c

@@ -1,6 +1,5 @@
 -- What a line does that has a disk for the acts, or none.
-use Rattle.std.specs.Prelude.{◌≡◌, ℕ, ℤ, List, Bool, Option, Some, None, Result, OnOk}
-use Rattle.std.specs.Io.KnownBytes.{Appends}
+use Rattle.std.specs.Prelude.{◌≡◌, ℕ, ℤ, List, Bool, Option, Some, None, Result}
 use Rattle.sqlite_disk.specs.declared.Disk.{Ghosts}
 use Rattle.sqlite_trees.specs.declared.store.Store.{Ghosts as StoreGhosts}
 use Rattle.sqlite.specs.Held.{Held, state}
@@ -8,6 +7,7 @@ use Rattle.machine.specs.Acts.{Act}
 use Rattle.machine.specs.Once.{IsHistory}
 use Rattle.store.specs.Connected.{Connected}
 use Rattle.store.specs.Opening.{AreFoundRows}
+use Rattle.texts.specs.Writing.{Writes}
 use Rattle.acts_files.specs.Kept.{LosesNoLine}
 use Rattle.command_line.specs.declared.fault.Fault.{Fault}
 use Rattle.service.specs.Serving.{IsPortTold, told_port}
@@ -37,10 +37,10 @@ module _ {S D : Type 0} (s : StoreGhosts S) (g : Ghosts D) (conn : Held S) where
   IsImportedWith from left end old new before after =
       IsDoneWith (λ disk now. OverRows (λ first acts. IsImportEnd s g first acts disk from left end old new now)) before after
 
--- The port was told. Without a disk for the acts any fault is that of the output or of the log.
+-- The port was told, or a beginning of its line, or nothing. Without a disk for the acts any fault is that of the output or of the log.
 abbrev pub IsPortToldIf : {D : Type 0} → Option D → ℕ → (old new : Option (List ℕ)) → Result Unit Fault → Type 0
 IsPortToldIf None port old new end = IsPortTold port old new end
-IsPortToldIf (Some disk) port old new end = OnOk end (Appends old new (told_port port))
+IsPortToldIf (Some disk) port old new end = Writes end old new (told_port port)
 
 -- What an import leaves of the books. With a disk for the acts the connection may be shut once they were read for it.
 abbrev pub KeepsImported : {S D : Type 0} → StoreGhosts S → Option D → ℤ → List Act → Held S → Type 0

@@ -8,22 +8,22 @@ use Rattle.store.specs.Connected.{Connected}
 use Rattle.acts_files.specs.declared.acts_file.ActsFile.{ActsFile}
 use Rattle.command_line.specs.declared.fault.Fault.{Fault}
 use Rattle.service.specs.Serving.{KeepsLogged}
-use Rattle.service.specs.Kept.{AreKept, HasKept}
+use Rattle.service.specs.Kept.{AreKept, HasKept, sent_till}
 use Rattle.service.specs.declared.serve.Stopped.{Stopped}
 use Rattle.service.specs.declared.serve.Stopped.TheVariants.{Log, Unkept}
 use Rattle.kept_lines.specs.Faults.{end_of}
-use Rattle.kept_lines.specs.Kept.{HasActs, BeginsActs, StopLeaves}
+use Rattle.kept_lines.specs.Kept.{HasActs, LeavesActs, StopLeaves}
 use Rattle.kept_lines.specs.Beside.{IsOpenedBeside, IsRefusedBeside}
 
 -- the port was served, and what was done is kept, up to the end that is told
-abbrev pub IsPortServed : {S K : Type 0} → StoreGhosts S → (keeps begins : K → ℤ → List Act → Type 0) → ℤ → List Act → (max : ℕ) → (was books : Connected S) → (asked : Bool) → (end : Result Unit Fault)
+abbrev pub IsPortServed : {S K : Type 0} → StoreGhosts S → (keeps : K → ℤ → List Act → Type 0) → (leaves : K → ℤ → List Act → List Act → Type 0) → ℤ → List Act → (max : ℕ) → (was books : Connected S) → (asked : Bool) → (end : Result Unit Fault)
     → (old new : Option (List ℕ)) → (before after : K) → Type 0
-IsPortServed s keeps begins first acts max was books asked end old new before after =
-    (stopped : Result Unit Stopped) × (end ≡ end_of stopped) × HasKept s keeps begins first acts max was books asked stopped old new before after
+IsPortServed s keeps leaves first acts max was books asked end old new before after =
+    (stopped : Result Unit Stopped) × (end ≡ end_of stopped) × HasKept s keeps leaves first acts max was books asked stopped old new before after
 
 module _ {S D : Type 0} (s : StoreGhosts S) (g : Ghosts D) (first : ℤ) (acts : List Act) where
   -- the acts that are kept after a run: all, or those before its last text
-  abbrev pub kept_of : (begun : ℤ) (stopped : Result Unit Stopped) (texts answers : List (List ℕ)) (after : List Act) (disk : D) → AreKept s (HasActs g) (BeginsActs g) first acts stopped begun texts answers after disk → List Act
+  abbrev pub kept_of : (begun : ℤ) (stopped : Result Unit Stopped) (texts answers : List (List ℕ)) (after : List Act) (disk : D) → AreKept s (HasActs g) (LeavesActs g) first acts stopped begun texts answers after disk → List Act
   kept_of begun (Ok done) texts answers after disk kept = after
   kept_of begun (Err Log) texts answers after disk kept = after
   kept_of begun (Err (Unkept fault)) texts answers after disk kept = kept.before
@@ -33,8 +33,8 @@ module _ {S D : Type 0} (s : StoreGhosts S) (g : Ghosts D) (first : ℤ) (acts :
   pub record IsServedBeside (begun : ℤ) (max : ℕ) (conn : Held S) (asked : Bool) (end : Result Unit Fault) (old new : Option (List ℕ)) (disk : D) : Type 0 where
     pub stopped : Result Unit Stopped
     pub told : end ≡ end_of stopped
-    pub run : KeepsLogged s first acts max conn asked stopped old new
-    pub kept : AreKept s (HasActs g) (BeginsActs g) first acts stopped begun run.0.texts run.0.answers run.0.after disk
+    pub run : KeepsLogged s first acts max conn asked sent_till stopped old new
+    pub kept : AreKept s (HasActs g) (LeavesActs g) first acts stopped begun run.0.texts run.0.answers run.0.after disk
     pub stop : StopLeaves s g first begun (kept_of begun stopped run.0.texts run.0.answers run.0.after disk kept) conn disk
 
   -- the file was refused before anything was told or logged, or it was opened and the port served

@@ -11,7 +11,8 @@ ghost use Rattle.store.specs.Opening.{IsOfNone, AreFoundRows};
 ghost use Rattle.line_books.specs.Failing.{IsUnopened};
 ghost use Rattle.acts_files.specs.Kept.{LosesNoLine};
 ghost use Rattle.acts_files.specs.Opened.{KeepsLines};
-ghost use Rattle.acts_files.specs.KeptActs.{KeepsActs, BeginsWithActs, KeepsTexts, NoHistory};
+ghost use Rattle.acts_files.specs.KeptActs.{KeepsActs, KeepsTexts, NoHistory};
+ghost use Rattle.kept_lines.specs.Kept.{leaves_file};
 ghost use Rattle.kept_lines.specs.Importing.{IsImportEnd, IsImportDone, IsImportedBeside, IsTallyEnd, IsTallyTold, KeepsMore};
 
 use crate::fault::fault_of_acts;
@@ -116,7 +117,7 @@ fn import_named<S: Alter, D: Disk, F: FilesAt, W: Write>(
     ensures clean { IsClean S.Store books.new → IsClean S.Store books.old }
     ensures imported { IsClean S.Store books.new → (first begun : ℤ) (older : List Act) → IsHistory first older → HoldsBooks S.Store first older books.old
         → LeavesOnly first older (state S.Store books.old.conn) → KeepsActs D.Disk begun older acts.old
-        → IsImportedBeside S.Store first older (λ all. KeepsActs D.Disk begun all acts.new) (BeginsWithActs D.Disk begun older acts.new) (F.bytes files.now name.now) result books.new (W.contents out.old) (W.contents out.new) }
+        → IsImportedBeside S.Store first older (λ all. KeepsActs D.Disk begun all acts.new) (leaves_file D.Disk begun older acts.new) (F.bytes files.now name.now) result books.new (W.contents out.old) (W.contents out.new) }
     ensures loses { KeepsTexts D.Disk acts.old acts.new }
 {
     match files.open(name) {
@@ -137,7 +138,7 @@ pub fn import_kept<S: Alter, D: Disk, R: Read + Drop, W: Write>(
     ensures clean { IsClean S.Store books.new → IsClean S.Store books.old }
     ensures imported { IsClean S.Store books.new → (first begun : ℤ) (older : List Act) → IsHistory first older → HoldsBooks S.Store first older books.old
         → LeavesOnly first older (state S.Store books.old.conn) → KeepsActs D.Disk begun older acts.old
-        → IsImportedBeside S.Store first older (λ all. KeepsActs D.Disk begun all acts.new) (BeginsWithActs D.Disk begun older acts.new) (R.remaining file) result books.new (W.contents out.old) (W.contents out.new) }
+        → IsImportedBeside S.Store first older (λ all. KeepsActs D.Disk begun all acts.new) (leaves_file D.Disk begun older acts.new) (R.remaining file) result books.new (W.contents out.old) (W.contents out.new) }
     ensures loses { KeepsTexts D.Disk acts.old acts.new }
 {
     let tally = take_in(alloc, books, file)?;
@@ -155,7 +156,7 @@ fn keep_and_tell<S: Alter, D: Disk, W: Write>(
     ensures clean { IsClean S.Store books.new → IsClean S.Store books.old }
     ensures told { IsClean S.Store books.new → (first begun : ℤ) (newer older : List Act) → IsHistory first (newer ++ older) → HoldsBooks S.Store first (newer ++ older) books.old → KeepsActs D.Disk begun older acts.old
         → HoldsBooks S.Store first (newer ++ older) books.new
-        × IsTallyEnd (KeepsActs D.Disk begun (newer ++ older) acts.new) (BeginsWithActs D.Disk begun older acts.new) tally result (W.contents out.old) (W.contents out.new) }
+        × IsTallyEnd (KeepsActs D.Disk begun (newer ++ older) acts.new) (leaves_file D.Disk begun older acts.new (newer ++ older)) tally result (W.contents out.old) (W.contents out.new) }
     ensures loses { KeepsTexts D.Disk acts.old acts.new }
     ensures survives { Survives (state S.Store books.old.conn) (state S.Store books.new.conn) (NoHistory S.Store books.old) }
 {

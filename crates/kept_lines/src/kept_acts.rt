@@ -17,13 +17,17 @@ pub struct KeptActs<D> {
 }
 
 impl<S: Alter, D: Disk> Keeper<S> for KeptActs<D> {
-    ghost use Rattle.kept_lines.specs.Kept.{keeps_acts, begins_acts, has_text, has_clean_file};
+    ghost use Rattle.kept_lines.specs.Kept.{keeps_acts, begins_acts, leaves_acts, has_text, has_clean_file};
 
     ghost keeps = { keeps_acts D.Disk };
 
     ghost begins = { begins_acts D.Disk };
 
+    ghost leaves = { leaves_acts D.Disk };
+
     ghost has_text = { has_text D.Disk };
+
+    ghost may_fail = { Unit {0} };
 
     ghost is_clean = { has_clean_file D.Disk };
 

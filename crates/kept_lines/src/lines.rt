@@ -8,7 +8,7 @@ ghost use Rattle.machine.specs.Acts.{Act};
 ghost use Rattle.machine.specs.Once.{IsHistory};
 ghost use Rattle.store.specs.Opening.{IsOfNone, AreFoundRows};
 ghost use Rattle.line_books.specs.Failing.{IsUnopened};
-ghost use Rattle.service.specs.Serving.{KeepsLogged};
+ghost use Rattle.service.specs.Serving.{KeepsLogged, sent_by};
 ghost use Rattle.kept_lines.specs.Lines.{LosesNoLineIf, IsPortToldIf, IsServedWith, IsImportedWith, IsImportToldIf, KeepsImported};
 
 use crate::importing::open_and_import_kept;
@@ -38,7 +38,7 @@ pub fn serve_line<S: Orderly + Drop, D: Disk + Drop, W: Write, L: Write>(
 ) -> Result<AfterWork<S>, NotBegun<S>>
     ensures clean { IfOk result (λ w. HasCleanDisk (state S.Store w.0) → HasCleanDisk (state S.Store conn)) }
     ensures served { IfOk result (λ w. HasCleanDisk (state S.Store w.0) → (first : ℤ) (acts : List Act) → IsHistory first acts
-        → AreFoundRows first acts (state S.Store conn).committed.trees → KeepsLogged S.Store first acts max w.0 logged w.1 (L.contents log.old) (L.contents log.new)) }
+        → AreFoundRows first acts (state S.Store conn).committed.trees → KeepsLogged S.Store first acts max w.0 logged sent_by w.1 (L.contents log.old) (L.contents log.new)) }
     ensures beside { IfOk result (λ w. HasCleanDisk (state S.Store w.0)
         → IsServedWith S.Store D.Disk conn max w.0 logged w.1 (W.contents out.old) (W.contents out.new) (L.contents log.old) (L.contents log.new) acts.old acts.new) }
     ensures lines { LosesNoLineIf D.Disk acts.old acts.new }

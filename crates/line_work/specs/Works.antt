@@ -17,7 +17,7 @@ use Rattle.command_line.specs.declared.running.Work.TheVariants.{Make, Serve, Im
 use Rattle.line_books.specs.Failing.{IsUnmade, IsUnopened}
 use Rattle.audit_line.specs.Auditing.{IsAuditTold, IsLeftAs, IsUnaudited}
 use Rattle.apply_line.specs.Applying.{KeepsMore, LeavesApplied}
-use Rattle.service.specs.Serving.{KeepsLogged}
+use Rattle.service.specs.Serving.{KeepsLogged, sent_by}
 use Rattle.service.specs.Printing.{LeavesSheet}
 use Rattle.kept_lines.specs.Lines.{IsImportedWith, IsImportToldIf, IsPortToldIf, IsServedWith, KeepsImported}
 use Rattle.service.specs.declared.books_lines.Sheet.TheVariants as sheet
@@ -59,7 +59,7 @@ IsServer (Apply file) = ⊥
 abbrev pub IsWorked : {S D : Type 0} → Ghosts S → Option D → Held S → Work → (log_old log_new : Option (List ℕ)) → Result Unit Fault → Held S → Type 0
 IsWorked g disk old (Make day) log_old log_new end new = KeepsBooks day [] (state g new) × IsTrue (state g new).is_open
 IsWorked g disk old (Serve port max log acts_file) log_old log_new end new = (first : ℤ) (acts : List Act) → IsHistory first acts → AreFoundRows first acts (state g old).committed.trees
-    → KeepsLogged g first acts max new log end log_old log_new
+    → KeepsLogged g first acts max new log sent_by end log_old log_new
 IsWorked g disk old (Import file acts_file) log_old log_new end new = (first : ℤ) (acts : List Act) → IsHistory first acts → AreFoundRows first acts (state g old).committed.trees → KeepsImported g disk first acts new
 IsWorked g disk old (Card lot) log_old log_new end new = (first : ℤ) (acts : List Act) → IsHistory first acts → AreFoundRows first acts (state g old).committed.trees → KeepsBooks first acts (state g new)
 IsWorked g disk old (Notice lot) log_old log_new end new = (first : ℤ) (acts : List Act) → IsHistory first acts → AreFoundRows first acts (state g old).committed.trees → KeepsBooks first acts (state g new)

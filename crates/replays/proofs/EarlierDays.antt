@@ -34,7 +34,8 @@ use Rattle.spellings.specs.declared.start.Start.{Start}
 use Rattle.spellings.specs.declared.start.Start.TheVariants.{Received, Opened}
 use Rattle.histories.specs.Start.{told_first, start_of, first_day}
 use Rattle.replays.specs.Starting.{TheDayThatIsToldStands}
-use Rattle.replays.proofs.FirstDay.{none_older, untold_day, untold_lots, first_day_told}
+use Rattle.histories.proofs.FirstReceipt.{none_older, untold_day, untold_lots}
+use Rattle.replays.proofs.FirstDay.{first_day_told}
 use Rattle.replays.specs.Alike.{FindTheSame}
 use Rattle.replays.proofs.Alike.{one_tables}
 

@@ -43,11 +43,11 @@ module _ {S : Type 0} (g : Ghosts S) (first : ℤ) (acts : List Act) where
       sym (h (λ e. memory (let it = e in cc)) (λ e. reader (let it = e in cc)) ∙ ap (λ t. file_read t text) is)
 
   -- what a stop leaves once rows were acted on
-  pub leaves_file : (old new : Connected S) (rows : List (Key × Command)) → IsClean g new → AreKeysOf rows → IsHistory first acts → HoldsBooks g first acts old → IsHistory first (acts_after_file first acts (rows_of rows))
+  pub leaves_file : (from : Option (List ℕ)) (old new : Connected S) (rows : List (Key × Command)) → AreRead g first acts from rows → IsClean g new → AreKeysOf rows → IsHistory first acts → HoldsBooks g first acts old → IsHistory first (acts_after_file first acts (rows_of rows))
       → Survives (state g old.conn) (state g new.conn) (λ trees. AreKeysOf rows → (first : ℤ) (acts : List Act) → IsHistory first acts → KeepsBooks first acts (state g old.conn) → AreBooks first (acts_after_file first acts (rows_of rows)) trees)
-      → LeavesOnly first acts (state g old.conn) → LeavesFile first acts (state g new.conn)
-  leaves_file old new rows clean keys history holds later survives leaves trees left =
-      elim (survives.crash clean trees left) [ inl before ↦ inl (leaves trees before) | inr file ↦ inr (rows, later, file keys first acts history holds.keeps) ]
+      → LeavesOnly first acts (state g old.conn) → LeavesFile g first acts from (state g new.conn)
+  leaves_file from old new rows read clean keys history holds later survives leaves trees left =
+      elim (survives.crash clean trees left) [ inl before ↦ inl (leaves trees before) | inr file ↦ inr (rows, read, later, file keys first acts history holds.keeps) ]
 
   module _ (from : Option (List ℕ)) (books : Connected S) where
     -- how the rows went

@@ -37,11 +37,6 @@ pub record HasRows (first : ℤ) (acts : List Act) (rows : List Act) (s : State)
 abbrev pub KeepsFile : {S : Type 0} → Ghosts S → ℤ → List Act → Held S → Type 0
 KeepsFile g first acts conn = ((rows : List Act) × HasRows first acts rows (state g conn)) ⊎ KeepsBooks first acts (state g conn)
 
--- whatever a stop leaves has the acts, or those after some file
-abbrev pub LeavesFile : ℤ → List Act → State → Type 0
-LeavesFile first acts s = (trees : Trees) → s.may_leave trees
-    → AreBooks first acts trees ⊎ ((rows : List (Key × Command)) × IsHistory first (acts_after_file first acts (rows_of rows)) × AreBooks first (acts_after_file first acts (rows_of rows)) trees)
-
 -- how the rows of a file went, as the line tells it
 abbrev pub IsToldOfFile : Result Tally RowFault → Result Tally Fault → Type 0
 IsToldOfFile (Ok tally) told = told ≡ Ok tally
@@ -53,6 +48,11 @@ module _ {S : Type 0} (g : Ghosts S) (first : ℤ) (acts : List Act) (from : Opt
   -- the bytes of the file, where they are known, read as these rows at the business day
   abbrev pub AreRead : List (Key × Command) → Type 0
   AreRead rows = IfSome from (λ text. file_read (today first acts) text ≡ Ok rows)
+
+  -- whatever a stop leaves has the acts, or those after the rows of this file
+  abbrev pub LeavesFile : State → Type 0
+  LeavesFile s = (trees : Trees) → s.may_leave trees
+      → AreBooks first acts trees ⊎ ((rows : List (Key × Command)) × AreRead rows × IsHistory first (acts_after_file first acts (rows_of rows)) × AreBooks first (acts_after_file first acts (rows_of rows)) trees)
 
   -- and have this fault, if the reader has not failed
   abbrev pub HasFault : FileFault → Type 0

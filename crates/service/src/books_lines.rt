@@ -1,5 +1,5 @@
-ghost use Rattle.std.specs.Prelude.{◌≡◌, ℤ, [], List, true, false, IsErr, IsErrAnd, OnOk, IfOk, IfErr};
-ghost use Rattle.std.specs.Io.KnownBytes.{Appends};
+ghost use Rattle.std.specs.Prelude.{◌≡◌, ℤ, [], List, true, false, IsErr, IsErrAnd, IfOk, IfErr};
+ghost use Rattle.texts.specs.Writing.{Writes};
 ghost use Rattle.books_schema.specs.declared.ready_connection.Leftover.TheVariants as leftover;
 ghost use Rattle.sqlite.specs.Held.{state};
 ghost use Rattle.sqlite.specs.State.{HasCleanDisk};
@@ -10,7 +10,7 @@ ghost use Rattle.store.specs.Opening.{IsOfNone, AreFoundRows};
 ghost use Rattle.store.specs.Connected.{Connected};
 ghost use Rattle.house.specs.House.{books_of, LeavesBooks};
 ghost use Rattle.line_books.specs.Failing.{IsUnopened};
-ghost use Rattle.service.specs.Serving.{HasLogged, KeepsLogged, IsPortTold, told_port};
+ghost use Rattle.service.specs.Serving.{HasLogged, KeepsLogged, IsPortTold, sent_by, told_port};
 ghost use Rattle.service.specs.Importing.{KeepsFile, IsFileImported};
 ghost use Rattle.service.specs.Printing.{IsSheetPrinted, LeavesSheet};
 
@@ -19,14 +19,16 @@ use crate::lot_texts::{print_card, print_notice};
 use crate::serve::serve_kept_if;
 use books_schema::ready_connection::Orderly;
 use command_line::{Fault, FilesAt};
+use commands::Buffer;
 use house::{House, NoKeeper};
 use line_books::{AfterWork, NotBegun, open_books};
 use sqlite::{Alter, Connection};
 use std::alloc::Global;
-use std::io::{self, Write};
+use std::io::Write;
 use std::net::TcpListener;
 use store::Books;
 use values::LotId;
+use wire::serving::write_bytes;
 
 /// Opens the books, tells the port and answers so many connections.
 pub fn open_and_serve<S: Orderly + Drop, W: Write, L: Write>(
@@ -41,7 +43,7 @@ pub fn open_and_serve<S: Orderly + Drop, W: Write, L: Write>(
 ) -> Result<AfterWork<S>, NotBegun<S>>
     ensures clean { IfOk result (λ w. HasCleanDisk (state S.Store w.0) → HasCleanDisk (state S.Store conn)) }
     ensures served { IfOk result (λ w. HasCleanDisk (state S.Store w.0) → (first : ℤ) (acts : List Act) → IsHistory first acts
-        → AreFoundRows first acts (state S.Store conn).committed.trees → KeepsLogged S.Store first acts max w.0 logged w.1 (L.contents log.old) (L.contents log.new)) }
+        → AreFoundRows first acts (state S.Store conn).committed.trees → KeepsLogged S.Store first acts max w.0 logged sent_by w.1 (L.contents log.old) (L.contents log.new)) }
     ensures quiet { logged ≡ false → log.new ≡ log.old }
     ensures told { IfOk result (λ w. HasCleanDisk (state S.Store w.0) → IsPortTold port (W.contents out.old) (W.contents out.new) w.1) }
     ensures other { IsOfNone (state S.Store conn).now.schema → IsErr result }
@@ -68,7 +70,7 @@ fn serve_books<S: Alter + Drop, W: Write, L: Write>(
 ) -> AfterWork<S>
     ensures clean { HasCleanDisk (state S.Store result.0) → IsClean S.Store books }
     ensures served { HasCleanDisk (state S.Store result.0) → (first : ℤ) (acts : List Act) → IsHistory first acts → HoldsBooks S.Store first acts books
-        → LeavesBooks first acts [] (state S.Store books.conn) → KeepsLogged S.Store first acts max result.0 logged result.1 (L.contents log.old) (L.contents log.new) }
+        → LeavesBooks first acts [] (state S.Store books.conn) → KeepsLogged S.Store first acts max result.0 logged sent_by result.1 (L.contents log.old) (L.contents log.new) }
     ensures quiet { logged ≡ false → log.new ≡ log.old }
     ensures told { IsPortTold port (W.contents out.old) (W.contents out.new) result.1 }
 {
@@ -199,7 +201,7 @@ fn serve_port<S: Alter + Drop, W: Write, L: Write>(
     ensures clean { IsClean S.Store (books_of house.new) → IsClean S.Store (books_of house.old) }
     ensures served { IsClean S.Store (books_of house.new)
         → (first : ℤ) (acts : List Act) → IsHistory first acts → HoldsBooks S.Store first acts (books_of house.old)
-        → HasLogged S.Store first acts max (books_of house.old) (books_of house.new) logged result (L.contents log.old) (L.contents log.new) }
+        → HasLogged S.Store first acts max (books_of house.old) (books_of house.new) logged sent_by result (L.contents log.old) (L.contents log.new) }
     ensures quiet { logged ≡ false → log.new ≡ log.old }
     ensures told { IsPortTold port (W.contents out.old) (W.contents out.new) result }
 {
@@ -210,10 +212,26 @@ fn serve_port<S: Alter + Drop, W: Write, L: Write>(
     }
 }
 
-/// Tells that the port is answered.
-pub fn tell_port<W: Write>(port: u16, out: &mut W) -> io::Result<()>
-    ensures { OnOk result (Appends (W.contents out.old) (W.contents out.new) (told_port port)) }
+/// Tells that the port is answered. The fault is `Io`, where a beginning of the line, maybe all of it, was written.
+pub fn tell_port<W: Write>(port: u16, out: &mut W) -> Result<(), Fault>
+    ensures told { Writes result (W.contents out.old) (W.contents out.new) (told_port port) }
+    ensures fault { IfErr result (λ e. e ≡ Fault.Io) }
 {
-    writeln!(out, "listening on 127.0.0.1:{port}")?;
-    out.flush()
+    match write_bytes(out, port_line(port).as_bytes()) {
+        Ok(()) => Ok(()),
+        Err(_) => Err(Fault::Io),
+    }
+}
+
+/// The bytes of the line that tells the port, at most.
+const PORT_LINE_MAX: usize = 44;
+
+fn port_line(port: u16) -> Buffer<PORT_LINE_MAX>
+    ensures { result ≡ told_port port }
+{
+    let mut line = Buffer::new();
+    line.push_all(b"listening on 127.0.0.1:");
+    line.push_decimal(u64::from(port));
+    line.push_all(b"\n");
+    line
 }

@@ -61,7 +61,7 @@ pub fn take_in<S: Alter, R: Read + Drop>(
     ensures taken { IsClean S.Store books.new → (first : ℤ) (acts : List Act) → IsHistory first acts → HoldsBooks S.Store first acts books.old
         → IsTakenIn S.Store first acts (R.remaining file) result books.new }
     ensures leaves { IsClean S.Store books.new → (first : ℤ) (acts : List Act) → IsHistory first acts → HoldsBooks S.Store first acts books.old
-        → LeavesOnly first acts (state S.Store books.old.conn) → LeavesFile first acts (state S.Store books.new.conn) }
+        → LeavesOnly first acts (state S.Store books.old.conn) → LeavesFile S.Store first acts (R.remaining file) (state S.Store books.new.conn) }
 {
     let today = books.day();
     match read_file(alloc, file, today) {

@@ -1,10 +1,11 @@
 -- The rows of `repeats` in the books of a history.
 use Rattle.std.proofs.Common.{◌≡◌, ℕ, List, find, refl, ap, ◌∙◌, Some}
-use Rattle.std.specs.Prelude.{ℤ}
+use Rattle.std.specs.Prelude.{min, ℤ, pos}
 use Rattle.std.specs.List.{AllByRecursion}
 use Rattle.values.specs.Values.{same_text}
 use Rattle.commands.specs.declared.rows.RepeatRow.{RepeatRow}
 use Rattle.sqlite.specs.State.{State}
+use Rattle.sqlite.specs.Effect.{Database}
 use Rattle.machine.specs.Acts.{Act}
 use Rattle.machine.specs.Tables.{Tables, tables_of, repeat_row}
 use Rattle.table_words.specs.Cells.{typed}
@@ -13,6 +14,7 @@ use Rattle.table_words.proofs.KeyLemmas.{itself_bytes, same_bytes}
 use Rattle.table_words.proofs.CellLemmas.{typed_some}
 use Rattle.history_tables.specs.Repeats.{repeats, repeats_laws}
 use Rattle.slices.specs.Books.{IsBooksOf}
+use Rattle.store.specs.ActRows.{stored_above}
 use Rattle.whole_tables.specs.declared.halves.Half.TheVariants.{Upper}
 use Rattle.whole_tables.specs.Halves.{is_in, half_of}
 use Rattle.whole_tables.specs.Whole.{AreAll, rows_of, typed_rows_of}
@@ -41,3 +43,9 @@ module _ (first : ℤ) (acts : List Act) (s : State) (books : IsBooksOf first ac
 
   pub act_rows_above_own : (rowid : ℤ) → AllByRecursion (λ (r : RepeatRow). repeat_row first acts r.k ≡ Some r) (act_rows_above rowid)
   act_rows_above_own rowid = typed_some (λ r. repeat_row first acts r.k ≡ Some r) repeats.is repeats.reads (is_in Upper rowid) (rows_of repeats s.now.trees) act_rows_own
+
+-- they are those of a state that has the same tables
+pub above_stored : (number : ℕ) (old mid : State) (rowid : ℤ) → rowid ≡ pos (min number 9_223_372_036_854_775_807) → mid.now ≡ old.now → typed repeats.is repeats.reads (half_of repeats Upper rowid mid.now.trees) ≡ stored_above number old
+above_stored number old mid rowid is same =
+    ap (λ z. typed repeats.is repeats.reads (half_of repeats Upper z mid.now.trees)) is
+    ∙ ap (λ (db : Database). typed repeats.is repeats.reads (half_of repeats Upper (pos (min number 9_223_372_036_854_775_807)) db.trees)) same

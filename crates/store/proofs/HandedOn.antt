@@ -1,6 +1,6 @@
 -- Records of the books handed to a sink, outside every transaction.
 use Rattle.std.proofs.Common.{◌≡◌, ℕ, List, [], inl, inr, refl, sym, subst, ◌∙◌, arith}
-use Rattle.std.specs.Prelude.{◌⊎◌, ℤ, Result, Ok, Err, IsTrue}
+use Rattle.std.specs.Prelude.{◌≢◌, ◌⊎◌, ℤ, Result, Ok, Err, IsTrue}
 use Rattle.sqlite_trees.specs.declared.store.Store.{Ghosts}
 use Rattle.sqlite.specs.Held.{Held, state}
 use Rattle.sqlite.specs.State.{State, HasCleanDisk, KeepsCommit, Survives, IsUnchanged, IsRolledBack, IsNotRun}
@@ -20,6 +20,7 @@ use Rattle.store.specs.Books.{KeepsBooks, IsSettled}
 use Rattle.store.specs.EachFaults.{each_fault_of}
 use Rattle.store.specs.Handing.{IsHandedOn, NoBooks}
 use Rattle.store.specs.declared.fault.Fault.TheVariants.{Store}
+use Rattle.store.specs.declared.each_fault.EachFault.{EachFault}
 use Rattle.store.specs.declared.each_fault.EachFault.TheVariants.{Fault}
 
 -- a statement that was not made ready changes nothing, or the store failed
@@ -57,6 +58,13 @@ module _ {X K : Type 0} (first : ℤ) (acts : List Act) (takes stops : K → X �
   handed_some (rows.Fault (table.Store cause)) held h left = (h, left_keeps first acts mid new held left)
   handed_some (rows.Fault table.Foreign) held h left = absurd h
   handed_some rows.Stopped held h left = (h, left_keeps first acts mid new held (inl left))
+
+-- but for a fault of the store the connection is open
+pub still_open : {X K : Type 0} (takes stops : K → X → K → Type 0) (records : List X) (before after : K) (mid new : State) (fault : RowsFault) → HandsOver takes stops before records after (Err fault) → IsLeft mid new (Err fault)
+    → ◌≢◌ {A = Result (Unit {0}) EachFault} (Err (each_fault_of fault)) (Err (Fault Store)) → IsTrue new.is_open
+still_open takes stops records before after mid new (rows.Fault (table.Store cause)) h left some = absurd (some refl)
+still_open takes stops records before after mid new (rows.Fault table.Foreign) h left some = absurd h
+still_open takes stops records before after mid new rows.Stopped h left some = left.0.is_open
 
 -- nothing was handed over
 pub handed_none : {X K : Type 0} (first : ℤ) (acts : List Act) (takes stops : K → X → K → Type 0) (records : List X) (sink : K) (old new : State) → KeepsBooks first acts old → IsUnchanged old new ⊎ IsRolledBack old new

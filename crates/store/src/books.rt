@@ -544,7 +544,7 @@ impl<S: Alter> Books<S> {
     pub fn each_act<K: Sink<RepeatRow>>(&mut self, sink: &mut K) -> Result<(), EachFault>
         ensures clean { IsClean S.Store self.new → IsClean S.Store self.old }
         ensures handed { IsClean S.Store self.new → (first : ℤ) (acts : List Act) → IsHistory first acts → HoldsBooks S.Store first acts self.old
-            → AreActsHanded first acts K.takes K.stops sink.old sink.new result × HoldsBooks S.Store first acts self.new }
+            → AreActsHanded first acts (state S.Store self.old.conn) (state S.Store self.new.conn) K.takes K.stops sink.old sink.new result × HoldsBooks S.Store first acts self.new }
         ensures as_before { IsClean S.Store self.new → AreAsBefore S.Store self.old self.new }
         ensures stays { IsClean S.Store self.new → IsSettled (state S.Store self.new.conn) }
         ensures survives { Survives (state S.Store self.old.conn) (state S.Store self.new.conn) (NoBooks (state S.Store self.old.conn)) }
@@ -562,7 +562,7 @@ impl<S: Alter> Books<S> {
     ) -> Result<(), EachFault>
         ensures clean { IsClean S.Store self.new → IsClean S.Store self.old }
         ensures handed { IsClean S.Store self.new → (first : ℤ) (acts : List Act) → IsHistory first acts → HoldsBooks S.Store first acts self.old
-            → AreLaterActsHanded first acts K.takes K.stops sink.old sink.new result × HoldsBooks S.Store first acts self.new }
+            → AreLaterActsHanded first acts number (state S.Store self.old.conn) (state S.Store self.new.conn) K.takes K.stops sink.old sink.new result × HoldsBooks S.Store first acts self.new }
         ensures as_before { IsClean S.Store self.new → AreAsBefore S.Store self.old self.new }
         ensures stays { IsClean S.Store self.new → IsSettled (state S.Store self.new.conn) }
         ensures survives { Survives (state S.Store self.old.conn) (state S.Store self.new.conn) (NoBooks (state S.Store self.old.conn)) }

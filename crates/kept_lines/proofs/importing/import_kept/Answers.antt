@@ -1,6 +1,7 @@
 use Rattle.std.proofs.Common.{refl}
 use Rattle.std.proofs.lemmas.Result.{err_from_is_err_and}
-use Rattle.acts_files.specs.KeptActs.{KeepsActs, BeginsWithActs}
+use Rattle.acts_files.specs.KeptActs.{KeepsActs}
+use Rattle.kept_lines.specs.Kept.{leaves_file}
 use Rattle.kept_lines.proofs.Imported.{kept_taken, untaken}
 use Rattle.acts_files.proofs.Same.{keeps_itself}
 use Rattle.kept_lines.proofs.importing.import_kept.Goals as goal
@@ -15,7 +16,7 @@ returns-clause-imported g c clean first begun older history holds leaves keeps =
 pub returns-in_err-tally-clause-imported : goal.returns-in_err-tally-clause-imported
 returns-in_err-tally-clause-imported g c clean first begun older history holds leaves keeps =
     let (fault, is, same) = err_from_is_err_and c.from_residual.result c.from_residual.ensures.1 in
-    rw is (rw same (untaken g.S.Store first older (λ all. KeepsActs g.D.Disk begun all c.args.acts.now) (BeginsWithActs g.D.Disk begun older c.args.acts.now) _ _ (g.R.Read.remaining c.args.file) c.in_err-tally.field-0.0 c.take_in.new.books
+    rw is (rw same (untaken g.S.Store first older (λ all. KeepsActs g.D.Disk begun all c.args.acts.now) (leaves_file g.D.Disk begun older c.args.acts.now) _ _ (g.R.Read.remaining c.args.file) c.in_err-tally.field-0.0 c.take_in.new.books
     (c.in_err-tally.ensures.taken clean first older history holds) (c.in_err-tally.ensures.leaves clean first older history holds leaves) refl keeps))
 
 pub returns-in_err-tally-clause-loses : goal.returns-in_err-tally-clause-loses

@@ -9,4 +9,4 @@ returns-in-Ok-clause-told g c clean first begun newer older history holds keeps 
 pub returns-in-Err-clause-told : goal.returns-in-Err-clause-told
 returns-in-Err-clause-told g c clean first begun newer older history holds keeps =
     let kept = c.in-Err.ensures.kept clean first begun newer older history holds keeps in
-    (kept.0, inr (c.in-Err.ensures.begins begun older keeps, (c.in-Err.fault, c.in-Err.ensures.fault, ap Err c.fault_of_acts.ensures), refl))
+    (kept.0, inr ((newer, refl, kept.2.has), (c.in-Err.fault, c.in-Err.ensures.fault, ap Err c.fault_of_acts.ensures), refl))

@@ -3,8 +3,8 @@ use Rattle.sqlite.specs.Held.{state}
 use Rattle.sqlite.specs.State.{HasCleanDisk}
 use Rattle.store.specs.Books.{HoldsBooks}
 use Rattle.house.specs.House.{books_of}
-use Rattle.service.specs.Serving.{KeepsLogged}
-use Rattle.kept_lines.specs.Kept.{keeps_acts, begins_acts}
+use Rattle.service.specs.Serving.{KeepsLogged, sent_by}
+use Rattle.kept_lines.specs.Kept.{keeps_acts, leaves_acts}
 use Rattle.kept_lines.specs.Serving.{IsPortServed, IsServedBeside}
 use Rattle.kept_lines.proofs.Served.{run_logged, served_beside}
 use Rattle.acts_files.specs.Kept.{LosesNoLine}
@@ -23,7 +23,7 @@ returns-clause-beside g c clean first begun acts history holds leaves keeps =
     subst (λ h. IsServedBeside s d first acts begun c.args.max h c.args.logged end.result old new c.into_disk.result) (sym at)
     (subst (λ x. IsServedBeside s d first acts begun c.args.max after.conn c.args.logged end.result old new x) (sym c.into_disk.ensures)
     (served_beside s d first acts begun c.args.max c.args.books after c.args.logged end.result old new c.args.file end.new.keeper leaves keeps
-    (subst (λ b. IsPortServed s (keeps_acts d) (begins_acts d) first acts c.args.max b after c.args.logged end.result old new (record { file = c.args.file }) end.new.keeper) c.new-house.ensures served)))
+    (subst (λ b. IsPortServed s (keeps_acts d) (leaves_acts d) first acts c.args.max b after c.args.logged end.result old new (record { file = c.args.file }) end.new.keeper) c.new-house.ensures served)))
 
 pub returns-clause-served : goal.returns-clause-served
 returns-clause-served g c clean first acts history holds leaves =
@@ -35,9 +35,9 @@ returns-clause-served g c clean first acts history holds leaves =
     let old = g.L.Write.contents c.args.log.now in
     let new = g.L.Write.contents end.new.log in
     let served = end.ensures.served (subst (λ h. HasCleanDisk (state s h)) at clean) first acts history (subst (HoldsBooks s first acts) (sym c.new-house.ensures) holds) in
-    subst (λ h. KeepsLogged s first acts c.args.max h c.args.logged end.result old new) (sym at)
+    subst (λ h. KeepsLogged s first acts c.args.max h c.args.logged sent_by end.result old new) (sym at)
     (run_logged s d first acts first c.args.max c.args.books after c.args.logged end.result old new (record { file = c.args.file }) end.new.keeper leaves
-    (subst (λ b. IsPortServed s (keeps_acts d) (begins_acts d) first acts c.args.max b after c.args.logged end.result old new (record { file = c.args.file }) end.new.keeper) c.new-house.ensures served))
+    (subst (λ b. IsPortServed s (keeps_acts d) (leaves_acts d) first acts c.args.max b after c.args.logged end.result old new (record { file = c.args.file }) end.new.keeper) c.new-house.ensures served))
 
 pub returns-clause-lines : goal.returns-clause-lines
 returns-clause-lines g c before keeps =

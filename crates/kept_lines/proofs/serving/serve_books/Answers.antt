@@ -4,7 +4,8 @@ use Rattle.sqlite.specs.State.{HasCleanDisk}
 use Rattle.store.specs.Books.{KeepsBooks, LeavesOnly}
 use Rattle.kept_lines.specs.Beside.{IsNotOpenedBeside}
 use Rattle.kept_lines.specs.Faults.{fault_of_acts}
-use Rattle.kept_lines.proofs.Opened.{leaves_on}
+use Rattle.service.specs.Serving.{told_port}
+use Rattle.kept_lines.proofs.Opened.{leaves_on, none_told}
 use Rattle.kept_lines.proofs.Served.{refused_logged}
 use Rattle.acts_files.specs.Kept.{LosesNoLine}
 use Rattle.kept_lines.proofs.serving.serve_books.Goals as goal
@@ -54,6 +55,9 @@ returns-in-Err-clause-beside g c clean first acts history holds leaves =
       refl,
       refl,
     )
+
+pub returns-in-Err-clause-told : goal.returns-in-Err-clause-told
+returns-in-Err-clause-told g c = none_told (g.W.Write.contents c.args.out.now) (told_port c.args.port) c.not_kept.result.0.1 (fault_of_acts c.in-Err.not_opened.fault) c.not_kept.ensures.end
 
 pub returns-in-Ok-clause-lines : goal.returns-in-Ok-clause-lines
 returns-in-Ok-clause-lines g c = c.serve_beside.ensures.lines c.args.disk c.in-Ok.ensures.lines

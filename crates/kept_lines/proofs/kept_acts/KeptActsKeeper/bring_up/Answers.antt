@@ -1,7 +1,11 @@
+use Rattle.std.proofs.Common.{refl}
 use Rattle.kept_lines.proofs.kept_acts.KeptActsKeeper.bring_up.Goals as goal
 
 pub returns-in-Ok-clause-kept : goal.returns-in-Ok-clause-kept
 returns-in-Ok-clause-kept g c clean first begun newer older history holds keeps = (c.in-Ok.ensures.kept clean first begun newer older history holds keeps).1
+
+pub returns-in-Err-clause-leaves : goal.returns-in-Err-clause-leaves
+returns-in-Err-clause-leaves g c clean first begun newer older history holds keeps = (newer, refl, (c.in-Err.ensures.kept clean first begun newer older history holds keeps).2.has)
 
 pub returns-in-Ok-clause-loses : goal.returns-in-Ok-clause-loses
 returns-in-Ok-clause-loses g c = c.bring_up.ensures.loses.kept

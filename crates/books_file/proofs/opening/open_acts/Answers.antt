@@ -1,7 +1,7 @@
 use Rattle.std.proofs.Common.{Bool, List, ℕ, ap₂, cond, refl}
 use Rattle.sqlite_disk.specs.Events.{Event, replay}
 use Rattle.books_file.proofs.ActsFound.{only_held}
-use Rattle.books_file.proofs.acts_file.open_acts.Goals as goal
+use Rattle.books_file.proofs.opening.open_acts.Goals as goal
 
 abbrev seen : List ℕ → List ℕ → Bool → List Event → List ℕ
 seen log db is_log history = (replay (cond is_log log db) history).seen
