@@ -8,6 +8,7 @@ mod Tails
 pub mod Own
 pub mod Same
 pub mod Opens
+pub mod Left
 mod Chunks
 mod Few
 pub mod Survive

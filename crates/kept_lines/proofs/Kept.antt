@@ -11,6 +11,7 @@ use Rattle.histories.specs.Text.{history_text}
 use Rattle.store.specs.Books.{AreBooks}
 use Rattle.acts_files.specs.KeptActs.{KeepsActs, AreOldest}
 use Rattle.acts_files.specs.declared.acts_file.ActsFile.{ActsFile}
+use Rattle.acts_files.proofs.Left.{left_added}
 use Rattle.kept_lines.specs.Kept.{HasActs, LeavesActs, StopLeaves}
 
 module _ {D : Type 0} (g : Ghosts D) (begun : ℤ) where
@@ -44,22 +45,18 @@ pub stop_leaves : {S D : Type 0} (s : StoreGhosts S) (g : Ghosts D) (first begun
     → ((trees : Trees) → (state s conn).may_leave trees → (kept : List Act) × IsHistory first kept × AreBooks first kept trees × AreOldest after kept) → StopLeaves s g first begun older conn disk
 stop_leaves s g first begun conn disk older after leaves books clean trees c left of_file =
     let b = books trees left in
-    let h = leaves.2 in
-    let r = h.left clean c of_file in
-    let oldest = h.added ++ older in
-    let parts : after ≡ h.beyond ++ (h.next ++ oldest) =
-    leaves.1 ∙ ap (λ l. l ++ older) (h.parts ∙ ap (λ l. l ++ h.added) h.split) ∙ append_assoc (h.beyond ++ h.next) h.added older ∙ append_assoc h.beyond h.next oldest in (
+    let h = left_added g begun leaves.0 older after disk leaves.1 leaves.2 clean c of_file in (
       b.0,
       b.1,
       b.2,
       record {
-        oldest = oldest;
+        oldest = h.oldest;
         next = h.next;
-        rest = r.0;
-        enough = (h.added, refl);
-        are = oldest_then (h.next ++ oldest) after b.0 (h.beyond, parts) b.3;
+        rest = h.rest;
+        enough = h.enough;
+        are = oldest_then (h.next ++ h.oldest) after b.0 h.are b.3;
         few = h.few;
-        is = r.1;
-        short = r.2;
+        is = h.is;
+        short = h.short;
       },
     )

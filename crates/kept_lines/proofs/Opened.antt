@@ -17,10 +17,11 @@ use Rattle.applies.specs.Begun.{BegunOn}
 use Rattle.acts_files.specs.KeptActs.{NoHistory}
 use Rattle.acts_files.specs.Faults.{IsNoMisfit}
 use Rattle.acts_files.specs.Kept.{IsSameFile}
-use Rattle.acts_files.specs.Opened.{IsOwn, IsOpened, IsNotOpened}
+use Rattle.acts_files.specs.Opened.{IsOwn, IsOpened, IsNotOpened, LeavesOldest}
 use Rattle.acts_files.specs.declared.acts_file.ActsFile.{ActsFile}
 use Rattle.acts_files.specs.declared.fault.ActsFault.{ActsFault}
 use Rattle.acts_files.specs.declared.opening.NotOpened.{NotOpened}
+use Rattle.acts_files.proofs.Left.{left_from, left_same}
 use Rattle.acts_files.proofs.Opens.{not_told, opened_from, not_opened_from}
 use Rattle.kept_lines.specs.Beside.{FitsFile, IsOpenedBeside, IsNotOpenedBeside}
 use Rattle.kept_lines.proofs.OwnDays.{own_taken}
@@ -34,10 +35,10 @@ told_then old new text (Err e) told = record { front = text; rest = []; parts = 
 pub none_told : {X E : Type 0} (same : Option (List ℕ)) (text : List ℕ) (r : Result X E) (fault : E) → r ≡ Err fault → Writes r same same text
 none_told same text r fault is = subst (λ e. Writes e same same text) (sym is) (beginning_of_none same same text (Appends-nil same))
 
--- where both hold of an error, what follows from them does
-pub on_err_both : {X E : Type 0} {P Q R : E → Type 0} (r : Result X E) → IfErr r P → IfErr r Q → ((e : E) → P e → Q e → R e) → IfErr r R
-on_err_both (Ok x) p q f = tt
-on_err_both (Err e) p q f = f e p q
+-- where all hold of an error, what follows from them does
+pub on_err_all : {X E : Type 0} {P Q R T : E → Type 0} (r : Result X E) → IfErr r P → IfErr r Q → IfErr r R → ((e : E) → P e → Q e → R e → T e) → IfErr r T
+on_err_all (Ok x) p q s f = tt
+on_err_all (Err e) p q s f = f e p q s
 
 module _ {D : Type 0} (g : Ghosts D) (first : ℤ) (acts : List Act) (disk read : D) (same : IsSameFile g disk read) where
   pub opened_beside : (begun : ℤ) → BegunOn first acts begun → (file : ActsFile D) → IsOpened g begun acts read file → IsOpenedBeside g first acts disk file
@@ -48,21 +49,23 @@ module _ {D : Type 0} (g : Ghosts D) (first : ℤ) (acts : List Act) (disk read 
   }
 
   pub not_opened_beside : (begun : ℤ) → BegunOn first acts begun → (IsTrue (g.is_clean read) → FitsFile g first acts disk begun) → (e : NotOpened D) → IsNotOpened g begun acts read e
-      → (IsTrue (g.is_clean e.disk) → IsOwn g begun acts read → IsNoMisfit e.fault) → IsNotOpenedBeside g first acts disk e
-  not_opened_beside begun day fits e is own = record {
+      → (IsTrue (g.is_clean e.disk) → IsOwn g begun acts read → IsNoMisfit e.fault) → LeavesOldest g begun acts read e.disk → IsNotOpenedBeside g first acts disk e
+  not_opened_beside begun day fits e is own leaves = record {
     begun = begun;
     day = day;
     not_opened = not_opened_from g begun acts disk read same e is;
     own = own_taken g first acts disk read e.disk same begun e.fault fits is own;
+    leaves = left_from g begun acts disk read e.disk same leaves;
   }
 
 -- the day was not found
-pub day_not_found : {D : Type 0} (g : Ghosts D) (first : ℤ) (acts : List Act) (disk new : D) (fault : ActsFault) → IsHistory first acts → IsNoMisfit fault → IsNotOpenedBeside g first acts disk (record { disk = new; fault = fault })
-day_not_found g first acts disk new fault history none = record {
+pub day_not_found : {D : Type 0} (g : Ghosts D) (first : ℤ) (acts : List Act) (disk new : D) (fault : ActsFault) → IsHistory first acts → IsSameFile g disk new → IsNoMisfit fault → IsNotOpenedBeside g first acts disk (record { disk = new; fault = fault })
+day_not_found g first acts disk new fault history same none = record {
   begun = first;
   day = record { history = history; tables = refl };
   not_opened = not_told g first acts disk new fault fault none;
   own = λ clean o. none;
+  leaves = left_same g first acts disk new same;
 }
 
 -- what a stop leaves is the same after a call that commits nothing

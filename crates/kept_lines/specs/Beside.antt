@@ -8,7 +8,7 @@ use Rattle.store.specs.Books.{KeepsBooks, LeavesOnly}
 use Rattle.act_lines.specs.Reading.{IsLine}
 use Rattle.applies.specs.Begun.{BegunOn, FitsLine}
 use Rattle.acts_files.specs.Faults.{IsNoMisfit}
-use Rattle.acts_files.specs.Opened.{IsOwn, IsOpened, IsNotOpened}
+use Rattle.acts_files.specs.Opened.{IsOwn, IsOpened, IsNotOpened, LeavesOldest}
 use Rattle.acts_files.specs.declared.acts_file.ActsFile.{ActsFile}
 use Rattle.acts_files.specs.declared.fault.ActsFault.{ActsFault}
 use Rattle.acts_files.specs.declared.opening.NotOpened.{NotOpened}
@@ -34,12 +34,14 @@ module _ {D : Type 0} (g : Ghosts D) (first : ℤ) (acts : List Act) (disk : D) 
     pub day : BegunOn first acts begun
     pub opened : IsOpened g begun acts disk file
 
-  -- It has other lines, or could not be read or written. No line of its own is told as one in which it and the books part.
+  -- It has other lines, or could not be read or written. No line of its own is told as one in which it and the books part, and nothing
+  -- came behind them but lines of the acts, and part of what was being added.
   pub record IsNotOpenedBeside (e : NotOpened D) : Type 0 where
     pub begun : ℤ
     pub day : BegunOn first acts begun
     pub not_opened : IsNotOpened g begun acts disk e
     pub own : IsTrue (g.is_clean e.disk) → IsOwnBeside g first acts disk → IsNoMisfit e.fault
+    pub leaves : LeavesOldest g begun acts disk e.disk
 
 -- The file does not keep the acts, and that is told. Nothing else was done: the books are those of the acts, now and after a stop.
 pub record IsRefusedBeside {S D : Type 0} (s : StoreGhosts S) (g : Ghosts D) (first : ℤ) (acts : List Act) (disk : D) (conn : Held S) (end : Result Unit Fault) (new : D) : Type 0 where

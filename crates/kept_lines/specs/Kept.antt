@@ -1,5 +1,5 @@
 -- What a file keeps of the acts of books. `g` is what the file's type means by what a read returns and by what a stop may leave.
-use Rattle.std.specs.Prelude.{◌≡◌, ◌≤◌, ℕ, ℤ, List, ◌++◌, length, Bool, IsTrue}
+use Rattle.std.specs.Prelude.{◌≡◌, ℕ, ℤ, List, ◌++◌, Bool, IsTrue}
 use Rattle.sqlite_disk.specs.declared.Disk.{Ghosts}
 use Rattle.sqlite_trees.specs.declared.store.Store.{Ghosts as StoreGhosts}
 use Rattle.sqlite_trees.specs.Tree.{Trees}
@@ -7,10 +7,9 @@ use Rattle.sqlite.specs.Held.{Held, state}
 use Rattle.machine.specs.Acts.{Act}
 use Rattle.machine.specs.Once.{IsHistory}
 use Rattle.histories.specs.Text.{history_text}
-use Rattle.histories.specs.Newer.{newer_text}
 use Rattle.store.specs.Books.{AreBooks}
 use Rattle.acts_files.specs.Kept.{HasText}
-use Rattle.acts_files.specs.KeptActs.{KeepsActs, BeginsWithActs, HasAdded, HoldsText, AreOldest}
+use Rattle.acts_files.specs.KeptActs.{KeepsActs, BeginsWithActs, HasAdded, HasOldest, HoldsText}
 use Rattle.acts_files.specs.declared.acts_file.ActsFile.{ActsFile}
 use Rattle.kept_lines.specs.declared.kept_acts.KeptActs.{KeptActs}
 
@@ -43,18 +42,6 @@ has_clean_file g kept = g.is_clean kept.file.disk
 -- the lines of these acts are all that the disk has, as it reads and after a stop
 abbrev pub HasActs : {D : Type 0} → Ghosts D → D → ℤ → List Act → Type 0
 HasActs g disk begun acts = IsTrue (g.is_clean disk) → (len : ℕ) × HasText g (history_text begun acts) len disk
-
--- Of the acts of books, the text has the lines of the oldest, at least of these, and behind them at most as many bytes as the lines of
--- the next ones have, a thousand at most.
-pub record HasOldest (begun : ℤ) (least all : List Act) (text : List ℕ) : Type 0 where
-  pub oldest : List Act
-  pub next : List Act
-  pub rest : List ℕ
-  pub enough : AreOldest least oldest
-  pub are : AreOldest (next ++ oldest) all
-  pub few : length next ≤ 1_000
-  pub is : text ≡ history_text begun oldest ++ rest
-  pub short : length rest ≤ length (newer_text begun next oldest)
 
 -- Whatever a stop leaves of the books and of the file at one moment: books of some acts, and the lines of the oldest of these, at least
 -- of the acts that were kept.

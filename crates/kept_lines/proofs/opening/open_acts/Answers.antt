@@ -1,7 +1,7 @@
 use Rattle.std.proofs.lemmas.Result.{IfOk-weaker, IfErr-weaker}
 use Rattle.acts_files.proofs.Same.{keeps_from, loses_from, loses_none}
 use Rattle.acts_files.proofs.Survive.{none_later}
-use Rattle.kept_lines.proofs.Opened.{day_not_found, on_err_both, not_opened_beside, opened_beside}
+use Rattle.kept_lines.proofs.Opened.{day_not_found, on_err_all, not_opened_beside, opened_beside}
 use Rattle.kept_lines.proofs.opening.open_acts.Goals as goal
 
 pub returns-in-Ok-clause-kept : goal.returns-in-Ok-clause-kept
@@ -12,8 +12,8 @@ returns-in-Ok-clause-kept g c clean first acts history holds =
     let kept = c.open_beside.ensures.kept clean first acts history day.0 in (
       kept.0,
       IfOk-weaker c.open_beside.result _ _ (λ file is. opened_beside d first acts c.args.disk c.begun_beside.new.disk same c.in-Ok.begun day.1 file is) kept.1,
-      on_err_both c.open_beside.result kept.2 (c.open_beside.ensures.own clean first acts history day.0)
-          (λ e is own. not_opened_beside d first acts c.args.disk c.begun_beside.new.disk same c.in-Ok.begun day.1 (c.in-Ok.ensures.fits (c.open_beside.ensures.clean clean) first acts history holds) e is own),
+      on_err_all c.open_beside.result kept.2 (c.open_beside.ensures.own clean first acts history day.0) (c.open_beside.ensures.leaves clean first acts history day.0)
+          (λ e is own leaves. not_opened_beside d first acts c.args.disk c.begun_beside.new.disk same c.in-Ok.begun day.1 (c.in-Ok.ensures.fits (c.open_beside.ensures.clean clean) first acts history holds) e is own leaves),
     )
 
 pub returns-in-Ok-clause-survives : goal.returns-in-Ok-clause-survives
@@ -23,7 +23,7 @@ returns-in-Ok-clause-survives g c =
 
 pub returns-in-Err-clause-kept : goal.returns-in-Err-clause-kept
 returns-in-Err-clause-kept g c clean first acts history holds =
-    ((c.in-Err.ensures.begun clean first acts history holds).0, tt, day_not_found g.D.Disk first acts c.args.disk c.begun_beside.new.disk c.in-Err.fault history c.in-Err.ensures.fault)
+    ((c.in-Err.ensures.begun clean first acts history holds).0, tt, day_not_found g.D.Disk first acts c.args.disk c.begun_beside.new.disk c.in-Err.fault history c.in-Err.ensures.same c.in-Err.ensures.fault)
 
 pub returns-in-Ok-clause-lines : goal.returns-in-Ok-clause-lines
 returns-in-Ok-clause-lines g c =
