@@ -86,7 +86,9 @@ impl<'a> Script<'a> {
             if line.starts_with("## ") {
                 return count;
             }
-            count = count.saturating_add(usize::from(is_step(line)));
+            if is_step(line) {
+                count = count.saturating_add(1);
+            }
         }
         count
     }
