@@ -1,17 +1,5 @@
 -- Lines that are added a few at once.
-use Rattle.std.proofs.Common.{◌≡◌, ◌⊎◌, ℕ, List, [], ◌++◌, append_assoc, append-nil, length, inl, inr, sym, ap, subst, ◌∙◌, arith}
-use Rattle.std.specs.Prelude.{ℤ, Vec, Result, Ok, Err, OnOk, OnErr}
-use Rattle.std.proofs.Common.{Global}
-use Rattle.sqlite_disk.specs.Disk.{MoreFaults}
-use Rattle.sqlite_disk.specs.declared.Disk.{Ghosts}
-use Rattle.machine.specs.Acts.{Act}
-use Rattle.histories.specs.Text.{history_text}
-use Rattle.histories.specs.Newer.{newer_text}
-use Rattle.histories.specs.declared.lines.HistoryLines.{HistoryLines}
-use Rattle.acts_files.specs.Kept.{HasText, HasAtMost, IsSameFile}
-use Rattle.acts_files.specs.KeptActs.{IsCleanFile, KeepsActs, KeepsNext, LacksNext}
-use Rattle.acts_files.specs.Newer.{AreNextLines}
-use Rattle.acts_files.specs.declared.acts_file.ActsFile.{ActsFile}
+use Rattle.acts_files.proofs.Words.{◌≡◌, ◌⊎◌, ℕ, List, [], ◌++◌, append_assoc, append-nil, length, inl, inr, sym, ap, subst, ◌∙◌, arith, ℤ, Vec, Result, Ok, Err, OnOk, OnErr, Global, MoreFaults, Ghosts, Act, history_text, newer_text, HistoryLines, HasText, HasAtMost, IsSameFile, IsCleanFile, KeepsActs, KeepsNext, LacksNext, AreNextLines, ActsFile}
 use Rattle.acts_files.proofs.Same.{few_of}
 use Rattle.acts_files.proofs.TextParts.{no_newer}
 

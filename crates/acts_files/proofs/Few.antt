@@ -1,22 +1,5 @@
 -- The lines of the next acts, taken a few at once.
-use Rattle.std.proofs.Common.{◌≡◌, ℕ, ◌+◌, List, [], ◌∷◌, ◌++◌, length, length-append, inl, inr, refl, sym, ap, subst, ◌∙◌, arith, Some, Global}
-use Rattle.std.specs.Prelude.{◌⊎◌, ℤ, Vec, Result}
-use Rattle.std.specs.List.{AllByRecursion}
-use Rattle.std.specs.Io.KnownBytes.{Appends}
-use Rattle.commands.specs.Sinks.{Reaches, StopsWithin}
-use Rattle.commands.specs.declared.rows.RepeatRow.{RepeatRow}
-use Rattle.machine.specs.Acts.{Act}
-use Rattle.machine.specs.Once.{IsHistory}
-use Rattle.machine.specs.Standing.{today}
-use Rattle.machine.specs.Tables.{repeat_row}
-use Rattle.histories.specs.Lines.{AddsLine}
-use Rattle.histories.specs.Newer.{newer_text}
-use Rattle.histories.specs.declared.lines.HistoryLines.{HistoryLines}
-use Rattle.histories.proofs.Above.{went_above}
-use Rattle.store.specs.Handing.{HandsRecords}
-use Rattle.store.specs.declared.each_fault.EachFault.{EachFault}
-use Rattle.acts_files.specs.Newer.{in_memory, AddsOne, StopsFull, IsTaken, AreLinesOf, AreNextLines}
-use Rattle.acts_files.specs.declared.few_lines.FewLines.{FewLines}
+use Rattle.acts_files.proofs.Words.{◌≡◌, ℕ, ◌+◌, List, [], ◌∷◌, ◌++◌, length, length-append, inl, inr, refl, sym, ap, subst, ◌∙◌, arith, Some, Global, ◌⊎◌, ℤ, Vec, Result, AllByRecursion, Appends, Reaches, StopsWithin, RepeatRow, Act, IsHistory, today, repeat_row, AddsLine, newer_text, HistoryLines, went_above, HandsRecords, EachFault, in_memory, AddsOne, StopsFull, IsTaken, AreLinesOf, AreNextLines, FewLines}
 
 -- what was taken, as lines
 lines_reached : (rows : List RepeatRow) (a b : FewLines) → Reaches AddsOne a rows b → Reaches (AddsLine in_memory) a.lines rows b.lines × (b.lines.done ≡ a.lines.done + length rows) × (a.room ≡ b.room + length rows)

@@ -1,3 +1,4 @@
+mod Words
 mod Appended
 mod Lines
 mod Numbers
@@ -8,6 +9,7 @@ mod Tails
 pub mod Own
 pub mod Same
 pub mod Opens
+pub mod Left
 mod Chunks
 mod Few
 pub mod Survive

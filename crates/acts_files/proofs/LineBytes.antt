@@ -1,28 +1,6 @@
 -- The line of an act is whole, and has no byte 0.
-use Rattle.std.proofs.Common.{◌≡◌, ◌≢◌, ℕ, ◌<◌, ◌^◌, zero, suc, true, false, List, [], ◌∷◌, ◌++◌, length, get_or, inl, inr, refl, sym, ◌∙◌, arith, eq-eqb, true≢false}
-use Rattle.std.specs.Prelude.{ℤ, ◌==◌, decimal, codes}
-use Rattle.std.specs.List.{join_with_byte}
-use Rattle.std.proofs.lemmas.Bool.{cases_Bool}
-use Rattle.std.proofs.lemmas.Bool.Decides.{nat_tests}
-use Rattle.values.specs.Values.{is_name, is_line_no}
-use Rattle.label.specs.Days.{day_text}
-use Rattle.commands.specs.Sound.{is_sound, is_sound_key}
-use Rattle.commands.specs.Spelling.{key_text, spelling, fields}
-use Rattle.commands.specs.declared.key.Key.{Key}
-use Rattle.commands.specs.declared.key.Key.TheVariants.{Plain, Line}
-use Rattle.commands.specs.declared.command.Command.{Command}
-use Rattle.commands.proofs.Joining.{Lacks, lacks_failing, and_both, all-append}
-use Rattle.commands.proofs.Printing.{Printable, is_printable, name_printable, decimal_printable, day_printable}
-use Rattle.commands.proofs.Fields.{AllPrintable}
-use Rattle.commands.proofs.OneText.{small_line}
-use Rattle.commands.proofs.OneSpelling.{PartsPrintable, fields_printable}
-use Rattle.machine.specs.Acts.{Act, next_number}
-use Rattle.machine.specs.Once.{IsHistory}
-use Rattle.machine.specs.Standing.{today}
-use Rattle.machine.proofs.histories.Accepted.{room_for_acts}
-use Rattle.histories.specs.Text.{tabbed}
-use Rattle.histories.specs.Newer.{act_line}
-use Rattle.acts_files.specs.Kept.{AreLines}
+use Rattle.acts_files.proofs.Words.{◌≡◌, ◌≢◌, ℕ, ◌<◌, ◌^◌, zero, suc, true, false, List, [], ◌∷◌, ◌++◌, length, get_or, inl, inr, refl, sym, ◌∙◌, arith, eq-eqb, true≢false, ℤ, ◌==◌, decimal, codes, join_with_byte, cases_Bool, nat_tests, is_name, is_line_no, day_text, is_sound, is_sound_key, key_text, spelling, fields, Key, Plain, Line, Command, lacks_failing, and_both, all-append, Printable, is_printable, name_printable, decimal_printable, day_printable, AllPrintable, small_line, PartsPrintable, fields_printable, Act, next_number, IsHistory, today, room_for_acts, tabbed, act_line, AreLines}
+use Rattle.commands.proofs.Joining.{Lacks}
 
 printed : (s : List ℕ) → Printable s → Lacks 0 s
 printed s p = lacks_failing 0 is_printable refl s p

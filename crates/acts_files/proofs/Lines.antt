@@ -1,12 +1,5 @@
 -- Whole lines, and what stands behind them.
-use Rattle.std.proofs.Common.{◌≡◌, ◌≢◌, ◌⊎◌, ℕ, ◌+◌, ◌-◌, ◌<◌, ◌≤◌, List, [], ◌∷◌, ◌++◌, length, length-append, length-drop, drop, get_or, inl, inr, sym, ap, ◌∙◌, arith, All}
-use Rattle.std.proofs.Math.Seq.{get_or-append_seam}
-use Rattle.std.proofs.lemmas.Bool.{cases_lt}
-use Rattle.std.proofs.lemmas.List.Elements.{All-get_or}
-use Rattle.std.proofs.lemmas.List.{get_or-drop}
-use Rattle.std.proofs.lemmas.List.Prefix.{front_reads}
-use Rattle.acts_files.specs.Kept.{AreLines}
-use Rattle.acts_files.specs.Torn.{HasNoLine}
+use Rattle.acts_files.proofs.Words.{◌≡◌, ◌≢◌, ◌⊎◌, ℕ, ◌+◌, ◌-◌, ◌<◌, ◌≤◌, List, [], ◌∷◌, ◌++◌, length, length-append, length-drop, drop, get_or, inl, inr, sym, ap, ◌∙◌, arith, All, get_or-append_seam, cases_lt, All-get_or, get_or-drop, front_reads, AreLines, HasNoLine}
 
 -- whole lines without a byte 0 do not go on where no line feed stands before the first byte 0
 pub lines_below : (c lines rest : List ℕ) (at : ℕ) → AreLines lines → c ≡ lines ++ rest → at ≤ length c → HasNoLine (drop at c) → length lines ≤ at

@@ -1,11 +1,5 @@
 -- Bytes with which a number begins.
-use Rattle.std.proofs.Common.{◌≡◌, ◌∙◌, ℕ, Bool, List, ◌++◌, length, take, drop, take-append-drop, sym, ap}
-use Rattle.std.specs.Prelude.{◌==◌, IsTrue}
-use Rattle.std.specs.List.{starts_with}
-use Rattle.std.proofs.Math.Seq.{take-append_seam}
-use Rattle.std.proofs.lemmas.Bool.Decides.{Decides-eqb}
-use Rattle.std.proofs.lemmas.Slice.Eq.{slice_eq-Decides}
-use Rattle.acts_files.specs.Torn.{Begins}
+use Rattle.acts_files.proofs.Words.{◌≡◌, ◌∙◌, ℕ, Bool, List, ◌++◌, length, take, drop, take-append-drop, sym, ap, ◌==◌, IsTrue, starts_with, take-append_seam, Decides-eqb, slice_eq-Decides, Begins}
 
 pub begins_iff : (text bytes : List ℕ) (r : Bool) → r ≡ starts_with (λ a b. a == b) text bytes → (IsTrue r → Begins bytes text) × (Begins bytes text → IsTrue r)
 begins_iff text bytes r is =

@@ -1,24 +1,5 @@
 -- A file that is opened beside the books, or is not.
-use Rattle.std.proofs.Common.{◌≡◌, ◌≢◌, ℕ, ◌+◌, ◌≤◌, List, [], ◌∷◌, ◌++◌, append-nil, append_assoc, length, length-append, length-drop, drop, inl, inr, refl, sym, ap, subst, ◌∙◌, arith}
-use Rattle.std.specs.Prelude.{ℤ, IsTrue, Vec}
-use Rattle.std.proofs.Common.{Global}
-use Rattle.std.proofs.lemmas.List.Prefix.{front_rest}
-use Rattle.sqlite_disk.specs.Disk.{Holds}
-use Rattle.sqlite_disk.specs.declared.Disk.{Ghosts}
-use Rattle.machine.specs.Acts.{Act, next_number}
-use Rattle.histories.specs.Text.{history_text}
-use Rattle.histories.specs.Newer.{act_line, newer_text}
-use Rattle.histories.specs.declared.lines.HistoryLines.{HistoryLines}
-use Rattle.acts_files.specs.Faults.{IsNoMisfit, IsOfBooks, IsOfFile}
-use Rattle.acts_files.specs.Kept.{HasText, ShowsText, IsSameFile}
-use Rattle.acts_files.specs.KeptActs.{IsCleanFile, KeepsActs, HasPassed}
-use Rattle.acts_files.specs.Newer.{AreNext, AreNextLines}
-use Rattle.acts_files.specs.Torn.{Begins, IsLeftOf, IsPartOf}
-use Rattle.acts_files.specs.Opened.{rest_of, PassesMore, StopsAt, EndsAt, HasWalked, Misfits, IsMeasured, IsPut, IsOther, IsNotPutBy, IsOpened, IsRefused, IsNotOpenedBy, IsNotOpened}
-use Rattle.acts_files.specs.declared.acts_file.ActsFile.{ActsFile}
-use Rattle.acts_files.specs.declared.opening.NotOpened.{NotOpened}
-use Rattle.acts_files.specs.declared.fault.ActsFault.{ActsFault}
-use Rattle.acts_files.specs.declared.fault.ActsFault.TheVariants.{File, Store, Foreign, Differs, Lacks}
+use Rattle.acts_files.proofs.Words.{◌≡◌, ◌≢◌, ℕ, ◌+◌, ◌≤◌, List, [], ◌∷◌, ◌++◌, append-nil, append_assoc, length, length-append, length-drop, drop, inl, inr, refl, sym, ap, subst, ◌∙◌, arith, ℤ, IsTrue, Vec, Global, front_rest, Holds, Ghosts, Act, next_number, history_text, act_line, newer_text, HistoryLines, IsNoMisfit, IsOfBooks, IsOfFile, HasText, ShowsText, IsSameFile, IsCleanFile, KeepsActs, HasPassed, AreNext, AreNextLines, Begins, IsLeftOf, IsPartOf, rest_of, PassesMore, StopsAt, EndsAt, HasWalked, Misfits, IsMeasured, IsPut, IsOther, IsNotPutBy, IsOpened, IsRefused, IsNotOpenedBy, IsNotOpened, ActsFile, NotOpened, ActsFault, File, Store, Foreign, Differs, Lacks}
 use Rattle.acts_files.proofs.Same.{same_then, more_passed, not_there, passed_same}
 use Rattle.acts_files.proofs.Tails.{no_part, not_left, not_part}
 use Rattle.acts_files.proofs.TextParts.{no_newer}

@@ -1,21 +1,5 @@
 -- The file of these acts is not refused.
-use Rattle.std.proofs.Common.{◌≡◌, ◌≢◌, ◌⊎◌, ℕ, List, [], ◌∷◌, ◌++◌, append-nil, append_assoc, length, length-append, inl, inr, refl, sym, ap, subst, ◌∙◌, arith}
-use Rattle.std.specs.Prelude.{ℤ, IsTrue, decimal}
-use Rattle.std.proofs.lemmas.List.{append_cancel_left}
-use Rattle.sqlite_disk.specs.declared.Disk.{Ghosts}
-use Rattle.label.specs.Days.{day_text}
-use Rattle.commands.specs.Spelling.{key_text, spelling}
-use Rattle.machine.specs.Acts.{Act, next_number}
-use Rattle.machine.specs.Once.{IsHistory}
-use Rattle.machine.specs.Standing.{today}
-use Rattle.histories.specs.Text.{tabbed, history_text}
-use Rattle.histories.specs.Newer.{act_line, newer_text}
-use Rattle.histories.proofs.Acts.{earlier}
-use Rattle.acts_files.specs.Faults.{IsNoMisfit}
-use Rattle.acts_files.specs.Torn.{Begins}
-use Rattle.acts_files.specs.Opened.{IsOwn, IsTail, IsRefused, IsNotOpenedBy}
-use Rattle.acts_files.specs.declared.fault.ActsFault.{ActsFault}
-use Rattle.acts_files.specs.declared.fault.ActsFault.TheVariants.{File, Store, Foreign, Differs, Lacks}
+use Rattle.acts_files.proofs.Words.{◌≡◌, ◌≢◌, ◌⊎◌, ℕ, List, [], ◌∷◌, ◌++◌, append-nil, append_assoc, length, length-append, inl, inr, refl, sym, ap, subst, ◌∙◌, arith, ℤ, IsTrue, decimal, append_cancel_left, Ghosts, day_text, key_text, spelling, Act, next_number, IsHistory, today, tabbed, history_text, act_line, newer_text, earlier, IsNoMisfit, Begins, IsOwn, IsTail, IsRefused, IsNotOpenedBy, ActsFault, File, Store, Foreign, Differs, Lacks}
 use Rattle.acts_files.proofs.LineBytes.{line_stands}
 use Rattle.acts_files.proofs.Lines.{lines_below}
 use Rattle.acts_files.proofs.TextParts.{goes_on}

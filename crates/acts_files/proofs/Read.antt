@@ -1,14 +1,5 @@
 -- What was read of a file.
-use Rattle.std.proofs.Common.{◌≡◌, ℕ, ◌+◌, ◌-◌, ◌<◌, ◌≤◌, ◌≢◌, List, [], ◌∷◌, ◌++◌, get_or, append-nil, append_assoc, length, length-append, length-drop, take, take-append-drop, drop, inl, inr, sym, ap, subst, ◌∙◌, arith}
-use Rattle.std.specs.Prelude.{min}
-use Rattle.std.proofs.Math.Seq.{take-append_seam, get_or-append_seam}
-use Rattle.std.proofs.lemmas.Bool.{cases_lt}
-use Rattle.std.proofs.lemmas.List.{drop_all, ext_get_or, get_or_append_left, take-append-le}
-use Rattle.std.proofs.lemmas.List.Elements.{All-get_or}
-use Rattle.std.proofs.lemmas.List.Prefix.{at_from_reads, at_reads, front_reads}
-use Rattle.sqlite_disk.specs.Disk.{Holds}
-use Rattle.act_lines.specs.Reading.{Bears, IsLine}
-use Rattle.acts_files.specs.Torn.{Begins, IsPartOf}
+use Rattle.acts_files.proofs.Words.{◌≡◌, ℕ, ◌+◌, ◌-◌, ◌<◌, ◌≤◌, ◌≢◌, List, [], ◌∷◌, ◌++◌, get_or, append-nil, append_assoc, length, length-append, length-drop, take, take-append-drop, drop, inl, inr, sym, ap, subst, ◌∙◌, arith, min, take-append_seam, get_or-append_seam, cases_lt, drop_all, ext_get_or, get_or_append_left, take-append-le, All-get_or, at_from_reads, at_reads, front_reads, Holds, Bears, IsLine, Begins, IsPartOf}
 
 -- bytes that a file has at a place are those behind it
 pub stand : (c bytes : List ℕ) (at : ℕ) → Holds c at bytes → drop at c ≡ bytes ++ drop (at + length bytes) c

@@ -1,18 +1,5 @@
 -- A file of which nothing was changed, and one that keeps its texts.
-use Rattle.std.proofs.Common.{◌≡◌, ℕ, ◌+◌, ◌≤◌, List, [], ◌++◌, append-nil, length, length-append, append_assoc, drop, refl, sym, ap, ◌∙◌, arith}
-use Rattle.std.specs.Prelude.{ℤ}
-use Rattle.std.proofs.lemmas.List.Prefix.{front_rest}
-use Rattle.sqlite_disk.specs.Disk.{Holds}
-use Rattle.sqlite_disk.specs.declared.Disk.{Ghosts}
-use Rattle.machine.specs.Acts.{Act}
-use Rattle.machine.specs.Standing.{today}
-use Rattle.histories.specs.Text.{history_text}
-use Rattle.histories.specs.Newer.{newer_text}
-use Rattle.acts_files.specs.Kept.{HasText, BeginsWith, HasAtMost, IsSameFile, LosesNoLine}
-use Rattle.acts_files.specs.KeptActs.{IsCleanFile, KeepsActs, HasPassed, HoldsText, KeepsTexts}
-use Rattle.acts_files.specs.Opened.{rest_of, IsMeasured, KeepsLines}
-use Rattle.acts_files.specs.Torn.{Begins, HasNoLine}
-use Rattle.acts_files.specs.declared.acts_file.ActsFile.{ActsFile}
+use Rattle.acts_files.proofs.Words.{◌≡◌, ℕ, ◌+◌, ◌≤◌, List, [], ◌++◌, append-nil, length, length-append, append_assoc, drop, refl, sym, ap, ◌∙◌, arith, ℤ, front_rest, Holds, Ghosts, Act, today, history_text, newer_text, HasText, BeginsWith, HasAtMost, IsSameFile, LosesNoLine, IsCleanFile, KeepsActs, HasPassed, HoldsText, KeepsTexts, rest_of, IsMeasured, KeepsLines, Begins, HasNoLine, ActsFile}
 use Rattle.acts_files.proofs.Lines.{lines_below}
 use Rattle.acts_files.proofs.Read.{stand, stand_back}
 use Rattle.acts_files.proofs.TextParts.{goes_on}

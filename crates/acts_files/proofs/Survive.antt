@@ -1,22 +1,7 @@
 -- What is committed where nothing is.
-use Rattle.std.proofs.Common.{◌≡◌, ℕ, List, length, inl, refl, sym, ap, arith}
-use Rattle.std.specs.Prelude.{ℤ, Result, Ok, Err}
+use Rattle.acts_files.proofs.Words.{◌≡◌, ℕ, List, length, inl, refl, sym, ap, arith, ℤ, Result, Ok, Err, Trees, state, State, HasCleanDisk, Survives, survives_then, survives_weaker, Refusal, Act, IsHistory, acts_shown, HoldsBooks, Connected, NoBooks, IsShown, Fault, Refused, NoHistory}
 use Rattle.sqlite_trees.specs.declared.store.Store.{Ghosts}
-use Rattle.sqlite_trees.specs.Tree.{Trees}
-use Rattle.sqlite.specs.Held.{state}
-use Rattle.sqlite.specs.State.{State, HasCleanDisk, Survives}
-use Rattle.sqlite.proofs.StateLemmas.{survives_then, survives_weaker}
-use Rattle.commands.specs.declared.refusal.Refusal.{Refusal}
-use Rattle.machine.specs.Acts.{Act}
-use Rattle.machine.specs.Once.{IsHistory}
-use Rattle.queries.specs.ShownActs.{acts_shown}
-use Rattle.store.specs.Books.{HoldsBooks}
-use Rattle.store.specs.Connected.{Connected}
-use Rattle.store.specs.Handing.{NoBooks}
-use Rattle.store.specs.Queries.{IsShown}
-use Rattle.store.specs.declared.fault.Fault.{Fault}
-use Rattle.store.specs.declared.fault.Fault.TheVariants.{Refused, Store, Foreign}
-use Rattle.acts_files.specs.KeptActs.{NoHistory}
+use Rattle.store.specs.declared.fault.Fault.TheVariants.{Store, Foreign}
 
 -- nothing was done
 pub survives_itself : (s : State) (P : Trees → Type 0) → Survives s s P

@@ -1,13 +1,5 @@
 -- What no stop leaves behind the lines of a file.
-use Rattle.std.proofs.Common.{◌≡◌, ◌≢◌, ℕ, List, [], ◌∷◌, ◌++◌, length, length-append, drop, inl, inr, refl, sym, ap, subst, ◌∙◌, arith}
-use Rattle.std.specs.Prelude.{ℤ, decimal}
-use Rattle.std.proofs.Math.Seq.{drop-append_seam}
-use Rattle.std.proofs.lemmas.List.Elements.{All-nil}
-use Rattle.machine.specs.Acts.{Act, next_number}
-use Rattle.histories.specs.Newer.{newer_text}
-use Rattle.acts_files.specs.Newer.{AreNext}
-use Rattle.acts_files.specs.Torn.{IsLeftOf, IsPartOf}
-use Rattle.acts_files.specs.Opened.{IsTail}
+use Rattle.acts_files.proofs.Words.{◌≡◌, ◌≢◌, ℕ, List, [], ◌∷◌, ◌++◌, length, length-append, drop, inl, inr, refl, sym, ap, subst, ◌∙◌, arith, ℤ, decimal, drop-append_seam, All-nil, Act, next_number, newer_text, AreNext, IsLeftOf, IsPartOf, IsTail}
 
 empty : {X : Type 0} (xs : List X) → length xs ≡ 0 → xs ≡ []
 empty [] e = refl

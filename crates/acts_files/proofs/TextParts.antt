@@ -1,9 +1,5 @@
 -- The text of a history in two parts.
-use Rattle.std.proofs.Common.{◌≡◌, List, [], ◌∷◌, ◌++◌, append_assoc, append-nil, length, length-append, refl, sym, ap, ◌∙◌, arith}
-use Rattle.machine.specs.Acts.{Act}
-use Rattle.histories.specs.Text.{history_text}
-use Rattle.histories.specs.Newer.{act_line, newer_text}
-use Rattle.acts_files.specs.KeptActs.{TextGoesOn}
+use Rattle.acts_files.proofs.Words.{◌≡◌, List, [], ◌∷◌, ◌++◌, append_assoc, append-nil, length, length-append, refl, sym, ap, ◌∙◌, arith, Act, history_text, act_line, newer_text, TextGoesOn}
 
 pub goes_on : TextGoesOn
 goes_on begun [] older = sym (append-nil (history_text begun older))

@@ -76,6 +76,18 @@ pub record LacksNext {D : Type 0} (g : Ghosts D) (begun : ℤ) (newer older : Li
 abbrev pub AreOldest : (older all : List Act) → Type 0
 AreOldest older all = (newer : List Act) × (all ≡ newer ++ older)
 
+-- Of the acts of books, the text has the lines of the oldest, at least of these, and behind them at most as many bytes as the lines of
+-- the next ones have, a thousand at most.
+pub record HasOldest (begun : ℤ) (least all : List Act) (text : List ℕ) : Type 0 where
+  pub oldest : List Act
+  pub next : List Act
+  pub rest : List ℕ
+  pub enough : AreOldest least oldest
+  pub are : AreOldest (next ++ oldest) all
+  pub few : length next ≤ 1_000
+  pub is : text ≡ history_text begun oldest ++ rest
+  pub short : length rest ≤ length (newer_text begun next oldest)
+
 -- what a call commits that commits nothing on the books of a history
 abbrev pub NoHistory : {S : Type 0} → StoreGhosts S → Connected S → Trees → Type 0
 NoHistory g books trees = (first : ℤ) (acts : List Act) → IsHistory first acts → ¬ HoldsBooks g first acts books

@@ -1,13 +1,13 @@
 -- What opening the file of the acts comes to. `g` is what the file's type means by what a read returns and by what a stop may leave.
-use Rattle.std.specs.Prelude.{◌≡◌, ◌≢◌, ◌⊎◌, ℕ, ℤ, List, [], ◌∷◌, ◌++◌, length, take, drop, IsTrue}
+use Rattle.std.specs.Prelude.{◌≡◌, ◌≢◌, ◌⊎◌, ◌≤◌, ℕ, ℤ, List, [], ◌∷◌, ◌++◌, length, take, drop, IsTrue}
 use Rattle.sqlite_disk.specs.Disk.{Only}
 use Rattle.sqlite_disk.specs.declared.Disk.{Ghosts}
 use Rattle.machine.specs.Acts.{Act, next_number}
 use Rattle.histories.specs.Text.{history_text}
 use Rattle.histories.specs.Newer.{act_line, newer_text}
-use Rattle.act_lines.specs.Reading.{IsNumbered}
+use Rattle.histories.specs.Reading.{IsNumbered}
 use Rattle.acts_files.specs.Kept.{AreLines, IsSameFile}
-use Rattle.acts_files.specs.KeptActs.{KeepsActs, KeepsNext, HasPassed, HoldsText, IsCleanFile}
+use Rattle.acts_files.specs.KeptActs.{KeepsActs, KeepsNext, HasPassed, HasOldest, HoldsText, IsCleanFile}
 use Rattle.acts_files.specs.Newer.{AreNext}
 use Rattle.acts_files.specs.Torn.{Begins, IsLeftOf, IsPartOf}
 use Rattle.acts_files.specs.declared.acts_file.ActsFile.{ActsFile}
@@ -120,6 +120,12 @@ pub record IsRefused {D : Type 0} (g : Ghosts D) (begun : ℤ) (acts : List Act)
   pub has : IsTrue (g.is_clean new) → g.seen disk ≡ history_text begun older ++ rest
   pub other : IsTrue (g.is_clean new) → ¬ IsTail begun newer older rest
   pub misfits : IsTrue (g.is_clean new) → Misfits begun newer older rest fault
+
+-- Whatever a stop leaves of a file that was not opened is no longer than it was, or has the lines of the oldest acts, and behind them at
+-- most as many bytes as those of the next ones have, a thousand at most.
+abbrev pub LeavesOldest : {D : Type 0} → Ghosts D → ℤ → List Act → (old new : D) → Type 0
+LeavesOldest g begun acts old new =
+    IsTrue (g.is_clean new) → Only (g.seen old) (g.may_leave old) → (c : List ℕ) → g.may_leave new c → (length c ≤ length (g.seen old)) ⊎ HasOldest begun [] acts c
 
 abbrev pub IsNotOpenedBy : {D : Type 0} → Ghosts D → ℤ → List Act → (disk new : D) → (fault told : ActsFault) → Type 0
 IsNotOpenedBy g begun acts disk new fault File = Unit {0}

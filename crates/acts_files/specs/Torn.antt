@@ -1,6 +1,6 @@
 -- What a stop leaves behind the lines of a file, where more were being added.
 use Rattle.std.specs.Prelude.{◌≡◌, ◌≢◌, ◌⊎◌, ◌<◌, ◌≤◌, ℕ, List, ◌++◌, length, take, slice_index, decimal}
-use Rattle.act_lines.specs.Reading.{IsPart, IsNumbered}
+use Rattle.histories.specs.Reading.{IsPart, IsNumbered}
 
 -- the bytes go on with the line
 abbrev pub Begins : (line bytes : List ℕ) → Type 0

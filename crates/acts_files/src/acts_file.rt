@@ -52,7 +52,7 @@ impl<D: Disk> ActsFile<D> {
     pub(crate) fn put(&mut self, lines: &[u8], done: u64, day: Day) -> Result<(), ActsFault>
         ensures kept { (begun : ℤ) (newer older : List Act) → lines.now ≡ newer_text begun newer older → done ≡ length (newer ++ older) → day ≡ today begun (newer ++ older)
             → HasPassed D.Disk begun older self.old → (IsCleanFile D.Disk self.old → length (D.Disk.seen self.old.disk) ≤ self.old.len + length lines.now) → OnOk result (KeepsActs D.Disk begun (newer ++ older) self.new) }
-        ensures few { (text : List ℕ) → (IsCleanFile D.Disk self.old → HasText D.Disk text self.old.len self.old.disk) → IsCleanFile D.Disk self.new → HasAtMost D.Disk text (length lines.now) self.new.disk }
+        ensures few { (text : List ℕ) → (IsCleanFile D.Disk self.old → (self.old.len ≡ length text) × HasAtMost D.Disk text (length lines.now) self.old.disk) → IsCleanFile D.Disk self.new → HasAtMost D.Disk text (length lines.now) self.new.disk }
         ensures loses { KeepsTexts D.Disk self.old self.new }
         ensures same { OnErr result ((self.new.len ≡ self.old.len) × (self.new.done ≡ self.old.done) × (self.new.day ≡ self.old.day)) }
         ensures steady { OnOk result (D.Disk.faults self.new.disk ≡ D.Disk.faults self.old.disk) }

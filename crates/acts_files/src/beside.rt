@@ -2,12 +2,12 @@
 
 ghost use Rattle.std.specs.Prelude.{◌≡◌, ◌+◌, ◌≤◌, ◌++◌, ℕ, List, IsTrue, IfOk, IfErr, OnOk, true, false, length};
 ghost use Rattle.sqlite_disk.specs.Disk.{Holds};
-ghost use Rattle.act_lines.specs.Reading.{IsLine};
+ghost use Rattle.histories.specs.Reading.{IsLine};
 ghost use Rattle.acts_files.specs.Kept.{IsSameFile};
 ghost use Rattle.acts_files.specs.Faults.{IsOfFile};
 
 use crate::fault::ActsFault;
-use act_lines::LINE_MAX;
+use histories::LINE_MAX;
 use sqlite_disk::Disk;
 use std::alloc::Global;
 

@@ -1,16 +1,16 @@
 //! The file of the acts, opened beside the books.
 
-ghost use Rattle.std.specs.Prelude.{◌≡◌, ◌↔◌, ◌≤◌, ◌++◌, [], ℤ, List, length, true, false, IsTrue, IfOk, IfErr, OnOk};
+ghost use Rattle.std.specs.Prelude.{◌≡◌, ◌↔◌, ◌≤◌, ◌++◌, [], ℕ, ℤ, List, length, true, false, IsTrue, IfOk, IfErr, OnOk, OnErr};
 ghost use Rattle.sqlite.specs.Held.{state};
 ghost use Rattle.sqlite.specs.State.{Survives};
 ghost use Rattle.machine.specs.Acts.{Act, next_number};
 ghost use Rattle.machine.specs.Once.{IsHistory};
 ghost use Rattle.store.specs.Books.{HoldsBooks, IsClean};
 ghost use Rattle.acts_files.specs.Faults.{IsNoMisfit};
-ghost use Rattle.acts_files.specs.Kept.{IsSameFile, LosesNoLine};
+ghost use Rattle.acts_files.specs.Kept.{IsAtMost, IsSameFile, LosesNoLine};
 ghost use Rattle.acts_files.specs.KeptActs.{NoHistory, HasPassed, IsCleanFile};
 ghost use Rattle.acts_files.specs.Torn.{IsLeftOf};
-ghost use Rattle.acts_files.specs.Opened.{PassesMore, EndsAt, HasWalked, KeepsLines, IsMeasured, IsPut, IsNotPut, IsOwn, IsOpened, IsNotOpenedBy, IsNotOpened, rest_of};
+ghost use Rattle.acts_files.specs.Opened.{PassesMore, EndsAt, HasWalked, KeepsLines, IsMeasured, IsPut, IsNotPut, IsOwn, IsOpened, IsNotOpenedBy, IsNotOpened, LeavesOldest, rest_of};
 
 use crate::acts_file::{AT_ONCE, ActsFile};
 use crate::beside::{bytes_at, file_len, has_there};
@@ -18,7 +18,7 @@ use crate::fault::ActsFault;
 use crate::keeping::cut_to;
 use crate::newer::{acts_of, lines_above};
 use crate::torn::{is_left_of, is_part_of};
-use act_lines::{LINE_MAX, is_numbered};
+use histories::{LINE_MAX, is_numbered};
 use label::Day;
 use sqlite::Alter;
 use sqlite_disk::Disk;
@@ -36,9 +36,10 @@ pub struct NotOpened<D> {
 /// has behind them is written over, where a torn write of the next lines leaves that: at most as many bytes as the lines of
 /// the next thousand acts have, each of them 0 or the one that stands there, and no whole line. Behind the lines of all acts
 /// it may have part of the line of the next act, which is cut. Then the lines that it lacks are added, so many at once.
-/// `Differs` and `Lacks` where it has anything else behind them, and there alone: nothing of it was changed. `File`, `Store` and `Foreign`
-/// where the file, or memory or the disk of the books, or their rows, did not suffice. However it ends, and whatever the
-/// books are, each whole line that the file had first stands in it.
+/// `Differs` and `Lacks` where it has anything else behind them, and there alone: nothing of it was changed. `File`, `Store`
+/// and `Foreign` where the file, or memory or the disk of the books, or their rows, did not suffice: then whatever a stop
+/// leaves of it is no longer than it was, or has lines of the oldest acts and part of what was being added. However it ends,
+/// and whatever the books are, each whole line that the file had first stands in it.
 pub fn open_beside<S: Alter, D: Disk>(
     alloc: Global,
     disk: D,
@@ -50,6 +51,8 @@ pub fn open_beside<S: Alter, D: Disk>(
         → HoldsBooks S.Store first acts books.new × IfOk result (IsOpened D.Disk begun acts disk) × IfErr result (IsNotOpened D.Disk begun acts disk) }
     ensures own { IsClean S.Store books.new → (first : ℤ) (acts : List Act) → IsHistory first acts → HoldsBooks S.Store first acts books.old
         → IfErr result (λ e. IsTrue (D.Disk.is_clean e.disk) → IsOwn D.Disk begun acts disk → IsNoMisfit e.fault) }
+    ensures leaves { IsClean S.Store books.new → (first : ℤ) (acts : List Act) → IsHistory first acts → HoldsBooks S.Store first acts books.old
+        → IfErr result (λ e. LeavesOldest D.Disk begun acts disk e.disk) }
     ensures lines { IfOk result (KeepsLines D.Disk disk) }
     ensures unopened { IfErr result (λ e. LosesNoLine D.Disk disk e.disk) }
     ensures survives { Survives (state S.Store books.old.conn) (state S.Store books.new.conn) (NoHistory S.Store books.old) }
@@ -76,6 +79,8 @@ impl<D: Disk> ActsFile<D> {
         ensures kept { IsClean S.Store books.new → (first : ℤ) (acts : List Act) → IsHistory first acts → HoldsBooks S.Store first acts books.old → (self.old.len ≡ 0) × (self.old.done ≡ 0)
             → HoldsBooks S.Store first acts books.new × OnOk result (IsOpened D.Disk self.old.day acts self.old.disk self.new)
             × IfErr result (λ fault. IsNotOpenedBy D.Disk self.old.day acts self.old.disk self.new.disk fault fault) }
+        ensures leaves { IsClean S.Store books.new → (first : ℤ) (acts : List Act) → IsHistory first acts → HoldsBooks S.Store first acts books.old → (self.old.len ≡ 0) × (self.old.done ≡ 0)
+            → OnErr result (LeavesOldest D.Disk self.old.day acts self.old.disk self.new.disk) }
         ensures lines { self.old.len ≡ 0 → OnOk result (KeepsLines D.Disk self.old.disk self.new) }
         ensures loses { self.old.len ≡ 0 → LosesNoLine D.Disk self.old.disk self.new.disk }
         ensures survives { Survives (state S.Store books.old.conn) (state S.Store books.new.conn) (NoHistory S.Store books.old) }
@@ -191,6 +196,8 @@ impl<D: Disk> ActsFile<D> {
         ensures put { IsClean S.Store books.new → (first begun : ℤ) (newer older : List Act) → IsHistory first (newer ++ older) → HoldsBooks S.Store first (newer ++ older) books.old → all ≡ length (newer ++ older)
             → HasPassed D.Disk begun older self.old → EndsAt D.Disk begun 1 newer older self.old → IsMeasured D.Disk size self.old → self.old.len ≤ size
             → HoldsBooks S.Store first (newer ++ older) books.new × OnOk result (IsPut D.Disk begun newer older self.old self.new) × IfErr result (IsNotPut D.Disk begun newer older self.old self.new) }
+        ensures leaves { IsClean S.Store books.new → (first begun : ℤ) (newer older : List Act) → IsHistory first (newer ++ older) → HoldsBooks S.Store first (newer ++ older) books.old → all ≡ length (newer ++ older)
+            → HasPassed D.Disk begun older self.old → IsMeasured D.Disk size self.old → self.old.len ≤ size → OnErr result (LeavesOldest D.Disk begun (newer ++ older) self.old.disk self.new.disk) }
         ensures lines { self.old.len ≤ size → IsMeasured D.Disk size self.old → OnOk result (KeepsLines D.Disk self.old.disk self.new) }
         ensures loses { self.old.len ≤ size → IsMeasured D.Disk size self.old → LosesNoLine D.Disk self.old.disk self.new.disk }
         ensures calm { IsCleanFile D.Disk self.new → IsCleanFile D.Disk self.old }
@@ -210,6 +217,7 @@ impl<D: Disk> ActsFile<D> {
             Err(ActsFault::Differs(next))
         }
     }
+
     /// Whether what it has behind the lines that were passed is what a torn write of these lines leaves.
     fn has_left_of(&mut self, alloc: Global, size: usize, lines: &[u8]) -> Result<bool, ActsFault>
         ensures same { IsSameFile D.Disk self.old.disk self.new.disk }
@@ -229,6 +237,7 @@ impl<D: Disk> ActsFile<D> {
     fn cut_rest(&mut self, alloc: Global, size: usize, next: u64) -> Result<(), ActsFault>
         ensures put { (begun : ℤ) (acts : List Act) → next ≡ next_number acts → HasPassed D.Disk begun acts self.old → IsMeasured D.Disk size self.old → self.old.len ≤ size
             → OnOk result (IsPut D.Disk begun [] acts self.old self.new) × IfErr result (IsNotPut D.Disk begun [] acts self.old self.new) }
+        ensures short { (most : ℕ) → self.old.len ≤ most → IsAtMost D.Disk most self.old.disk → IsAtMost D.Disk most self.new.disk }
         ensures lines { self.old.len ≤ size → IsMeasured D.Disk size self.old → OnOk result (KeepsLines D.Disk self.old.disk self.new) }
         ensures loses { self.old.len ≤ size → IsMeasured D.Disk size self.old → LosesNoLine D.Disk self.old.disk self.new.disk }
         ensures calm { IsCleanFile D.Disk self.new → IsCleanFile D.Disk self.old }

@@ -1,11 +1,11 @@
 //! What a stop leaves behind the lines of a file.
 
 ghost use Rattle.std.specs.Prelude.{◌⊎◌, ◌↔◌, ◌≤◌, ℕ, IsTrue, decimal, length, take};
-ghost use Rattle.act_lines.specs.Reading.{IsNumbered};
+ghost use Rattle.histories.specs.Reading.{IsNumbered};
 ghost use Rattle.acts_files.specs.Torn.{AreOldOrNew, HasNoLine, IsLeftOf, IsBeforeZero, IsPartOf, Begins};
 
-use act_lines::{LINE_MAX, is_numbered};
 use commands::decimal_text;
+use histories::{LINE_MAX, is_numbered};
 
 /// Whether a torn write of these lines may leave these bytes, none of which is a whole line: at most as many bytes as they
 /// have, each of them 0 or the one that stands there.

@@ -1,9 +1,9 @@
 //! The acts of lines.
 
 use commands::{Command, Key};
-use spellings::{parse, parse_key};
 use std::alloc::Global;
 use std::process::Abort;
+use texts::{parse, parse_key};
 
 fn parted<'a>(rt: &impl Abort, text: &'a str) -> (&'a str, &'a str) {
     text.split_once("\t").expect(rt, "two fields")

@@ -2,6 +2,7 @@
 
 use crate::acting::acts_of;
 use crate::disk::{ALWAYS, Held, Stopping, disk_of};
+use crate::fails::each_call_fails;
 use crate::filed::{are_filed, day_is_given, is_printed};
 use crate::memory::is_kept;
 use crate::opened::{are_opened, bytes_are_changed, is_cut_at_each_byte, tails_are_long};
@@ -33,6 +34,8 @@ pub(crate) enum Trial<'a> {
     DayGiven,
     /// The disk of the file stops.
     Stops(&'a Start),
+    /// A call on its disk fails.
+    Fails,
     /// Writes of which a stop left a part.
     Torn,
     /// More acts than are added at once.
@@ -127,6 +130,7 @@ fn tried<S: Alter + Drop>(rt: &impl Abort, alloc: Global, conn: Connection<S>, t
         Trial::Printed => is_printed(rt, alloc, books),
         Trial::DayGiven => day_is_given(rt, alloc, &mut books),
         Trial::Stops(start) => stops(rt, alloc, &mut books, start),
+        Trial::Fails => each_call_fails(rt, alloc, &mut books),
         Trial::Torn => writes_are_torn(rt, alloc, &mut books),
         Trial::Many => many_are_added(rt, alloc, &mut books),
         Trial::Thousand => a_thousand_rows_are_kept(rt, alloc, &mut books),

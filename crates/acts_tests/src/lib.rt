@@ -9,6 +9,8 @@ mod books;
 #[cfg(test)]
 mod disk;
 #[cfg(test)]
+mod fails;
+#[cfg(test)]
 mod filed;
 #[cfg(test)]
 mod history;

@@ -2,8 +2,8 @@
 
 use crate::books::{Trial, act, in_memory, is_so};
 use crate::history::{ALL, line_at, lines, part};
-use act_lines::LINE_MAX;
 use acts_files::ActsFault;
+use histories::LINE_MAX;
 use sqlite::Alter;
 use std::alloc::Global;
 use std::process::Abort;

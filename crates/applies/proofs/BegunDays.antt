@@ -1,27 +1,5 @@
 -- The days on which acts began.
-use Rattle.std.proofs.Common.{◌≡◌, ℕ, ◌<◌, true, false, List, [], ◌∷◌, ◌++◌, find, Option, Some, None, option_map, inl, inr, refl, sym, ap, subst, ◌∙◌, arith, eq-eqb, eqb-true}
-use Rattle.std.specs.Prelude.{◌⊎◌, ℤ, pos, ◌-ℤ◌, Bool, ◌&&◌, if◌then◌else◌, IsTrue, int_le, int_lt, nat_eq}
-use Rattle.std.specs.List.{AllByRecursion}
-use Rattle.std.proofs.lemmas.Bool.{cases_Bool}
-use Rattle.std.proofs.lemmas.Int.{ints}
-use Rattle.sqlite_trees.specs.Tree.{IsAscending}
-use Rattle.label.specs.Days.{is_business_day}
-use Rattle.values.specs.declared.lot.LotId.{LotId}
-use Rattle.commands.specs.Sinks.{StopsWithin}
-use Rattle.commands.specs.declared.rows.CardRow.{CardRow}
-use Rattle.commands.proofs.Joining.{and_both}
-use Rattle.spellings.specs.Starting.{day_before}
-use Rattle.spellings.specs.declared.start.Start.TheVariants.{Received, Opened}
-use Rattle.machine.specs.Acts.{Act}
-use Rattle.machine.specs.Once.{IsHistory}
-use Rattle.machine.specs.Tables.{tables_of, card_row}
-use Rattle.machine.specs.Views.{card_of_lot}
-use Rattle.store.proofs.CardOrder.{card_in_order}
-use Rattle.histories.specs.Start.{start_of, first_day, IsStartBy, IsStart, IsPassed, TellsDay}
-use Rattle.histories.specs.declared.start.CardDay.{CardDay}
-use Rattle.histories.proofs.Kept.{still}
-use Rattle.replays.proofs.EarlierDays.{earlier_alike, told_day_stands, before_opened}
-use Rattle.applies.specs.Begun.{BegunOn, earlier_day}
+use Rattle.applies.proofs.Words.{◌≡◌, ℕ, ◌<◌, true, false, List, [], ◌∷◌, ◌++◌, find, Option, Some, None, option_map, inl, inr, refl, sym, ap, subst, ◌∙◌, arith, eq-eqb, eqb-true, ◌⊎◌, ℤ, pos, ◌-ℤ◌, Bool, ◌&&◌, if◌then◌else◌, IsTrue, int_le, int_lt, nat_eq, AllByRecursion, cases_Bool, ints, IsAscending, is_business_day, LotId, StopsWithin, CardRow, and_both, day_before, Received, Opened, Act, IsHistory, tables_of, card_row, card_of_lot, card_in_order, start_of, first_day, IsStartBy, IsStart, IsPassed, TellsDay, CardDay, still, earlier_alike, told_day_stands, before_opened, BegunOn, earlier_day}
 
 -- ---- the day is one on which they began
 

@@ -1,30 +1,5 @@
 -- The day that is found fits the first line of a text: the acts from that line on have the lines that they have in the text.
-use Rattle.std.proofs.Common.{◌≡◌, ◌≢◌, ℕ, ◌<◌, ◌^◌, true, List, [], ◌∷◌, ◌++◌, Option, Some, None, refl, sym, ap, subst, ◌∙◌, arith, IsTrue}
-use Rattle.std.specs.Prelude.{ℤ, pos, negsuc, ◌-ℤ◌, if◌then◌else◌, decimal, int_le, int_lt}
-use Rattle.std.proofs.lemmas.Int.{ints}
-use Rattle.std.proofs.lemmas.Option.{same_Some, none-some}
-use Rattle.values.specs.declared.lot.LotId.{LotId}
-use Rattle.label.specs.Days.{is_day, is_business_day, day_text}
-use Rattle.label.proofs.DayTexts.{parsed_day-day_text}
-use Rattle.commands.specs.Spelling.{key_text, spelling}
-use Rattle.commands.specs.declared.command.Command.{Command}
-use Rattle.commands.specs.declared.command.Command.TheVariants.{OpenDay}
-use Rattle.commands.proofs.Joining.{and_both, and_true}
-use Rattle.spellings.specs.Starting.{told_by, day_before}
-use Rattle.spellings.specs.declared.start.Start.{Start}
-use Rattle.spellings.specs.declared.start.Start.TheVariants.{Received, Opened}
-use Rattle.machine.specs.Acts.{Act, next_number}
-use Rattle.machine.specs.Once.{IsHistory}
-use Rattle.machine.specs.Standing.{today, day_after_command}
-use Rattle.histories.specs.Text.{tabbed, history_line}
-use Rattle.histories.specs.Newer.{act_line}
-use Rattle.histories.specs.Start.{told_first, start_of, first_day, IsStart}
-use Rattle.histories.proofs.Begun.{start_kept}
-use Rattle.replays.proofs.FirstDay.{untold_day, first_day_told}
-use Rattle.replays.proofs.EarlierDays.{earlier_alike, opened_later, began_on_business, before_opened}
-use Rattle.histories.proofs.Acts.{earlier}
-use Rattle.applies.specs.Fields.{behind_tab}
-use Rattle.applies.specs.Begun.{BegunOn, FitsLine, day_in, line_day, earlier_day}
+use Rattle.applies.proofs.Words.{◌≡◌, ◌≢◌, ℕ, ◌<◌, ◌^◌, true, List, [], ◌∷◌, ◌++◌, Option, Some, None, refl, sym, ap, subst, ◌∙◌, arith, IsTrue, ℤ, pos, negsuc, ◌-ℤ◌, if◌then◌else◌, decimal, int_le, int_lt, ints, same_Some, none-some, LotId, is_day, is_business_day, day_text, parsed_day-day_text, key_text, spelling, Command, OpenDay, and_both, and_true, told_by, day_before, Start, Received, Opened, Act, next_number, IsHistory, today, day_after_command, tabbed, history_line, act_line, told_first, start_of, first_day, IsStart, start_kept, untold_day, first_day_told, earlier_alike, opened_later, began_on_business, before_opened, earlier, behind_tab, BegunOn, FitsLine, day_in, line_day, earlier_day}
 use Rattle.applies.proofs.LineFields.{line_parts, cut_first, number_lacks, day_lacks}
 use Rattle.applies.proofs.Fronts.{small}
 

@@ -1,24 +1,6 @@
 -- Texts of histories, compared from their first lines on.
-use Rattle.std.proofs.Common.{◌≡◌, ◌≢◌, ℕ, ◌<◌, ◌^◌, List, [], ◌∷◌, ◌++◌, append_assoc, append-nil, refl, sym, ap, subst, ◌∙◌, arith, eqb-true}
-use Rattle.std.specs.Prelude.{ℤ, ◌==◌}
-use Rattle.std.proofs.lemmas.Bool.{false_from_ne_true}
-use Rattle.std.proofs.lemmas.Bool.Decides.{nat_tests}
-use Rattle.std.proofs.lemmas.Option.{same_Some}
-use Rattle.std.proofs.lemmas.List.Elements.{All-head, All-tail}
-use Rattle.commands.specs.Spelling.{key_text, spelling}
-use Rattle.commands.specs.declared.key.Key.{Key}
-use Rattle.commands.specs.declared.command.Command.{Command}
-use Rattle.commands.proofs.Joining.{Lacks, first_part}
-use Rattle.commands.proofs.OneText.{one_text}
-use Rattle.commands.proofs.OneSpelling.{one_spelling}
-use Rattle.machine.specs.Acts.{Act, next_number}
-use Rattle.machine.specs.Once.{IsHistory}
-use Rattle.machine.specs.Standing.{today}
-use Rattle.machine.proofs.histories.Accepted.{room_for_acts}
-use Rattle.histories.specs.Text.{tabbed}
-use Rattle.histories.specs.Newer.{act_line, newer_text}
-use Rattle.act_lines.specs.Reading.{IsPart, IsLine}
-use Rattle.applies.specs.Fields.{untabbed, key_and_spelling}
+use Rattle.applies.proofs.Words.{◌≡◌, ◌≢◌, ℕ, ◌<◌, ◌^◌, List, [], ◌∷◌, ◌++◌, append_assoc, append-nil, refl, sym, ap, subst, ◌∙◌, arith, eqb-true, ℤ, ◌==◌, false_from_ne_true, nat_tests, same_Some, All-head, All-tail, key_text, spelling, Key, Command, first_part, one_text, one_spelling, Act, next_number, IsHistory, today, room_for_acts, tabbed, act_line, newer_text, IsPart, IsLine, untabbed, key_and_spelling}
+use Rattle.commands.proofs.Joining.{Lacks}
 use Rattle.applies.proofs.LineFields.{lacks, key_printable, spelling_lacks, key_cut, untabbed_again, line_is_line}
 
 -- ---- one line is of one act

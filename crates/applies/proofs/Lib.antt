@@ -1,5 +1,7 @@
+mod Words
 pub mod LineFields
 pub mod Texts
+pub mod Wants
 pub mod Loop
 pub mod Passed
 pub mod Walked

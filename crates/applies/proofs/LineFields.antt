@@ -1,27 +1,7 @@
 -- The fields of an act's line are read as the act.
-use Rattle.std.proofs.Common.{◌≡◌, ◌≢◌, ℕ, ◌-◌, ◌<◌, ◌^◌, true, false, List, [], ◌∷◌, ◌++◌, append_assoc, length, length-append, take, Option, Some, None, option_map, inl, inr, refl, sym, ap, ◌∙◌, arith, eq-eqb, eqb-true, true≢false}
-use Rattle.std.specs.Prelude.{ℤ, ◌==◌, decimal, codes}
-use Rattle.std.specs.List.{join_with_byte}
-use Rattle.std.proofs.lemmas.Bool.{cases_Bool}
-use Rattle.std.proofs.lemmas.List.{take-append-le}
-use Rattle.std.proofs.Math.Seq.{take-length}
-use Rattle.std.proofs.lemmas.List.Elements.{All-nil, All-cons}
-use Rattle.values.specs.Values.{is_name, is_line_no}
-use Rattle.label.specs.Days.{day_text}
-use Rattle.commands.specs.Sound.{is_sound, is_sound_key}
-use Rattle.commands.specs.Spelling.{key_text, spelling, fields}
-use Rattle.commands.specs.declared.key.Key.{Key}
-use Rattle.commands.specs.declared.key.Key.TheVariants.{Plain, Line}
-use Rattle.commands.specs.declared.command.Command.{Command}
-use Rattle.commands.proofs.Joining.{Lacks, lacks_failing, and_both, all-append}
-use Rattle.commands.proofs.Printing.{Printable, is_printable, name_printable, decimal_printable, day_printable}
-use Rattle.commands.proofs.Fields.{AllPrintable}
-use Rattle.commands.proofs.OneText.{small_line}
-use Rattle.commands.proofs.OneSpelling.{PartsPrintable, fields_printable}
-use Rattle.histories.specs.Text.{tabbed, history_line}
-use Rattle.act_lines.specs.Reading.{IsPart, IsLine}
-use Rattle.std.proofs.lemmas.Option.{same_Some, none-some}
-use Rattle.applies.specs.Fields.{cut_at_tab, behind_tab, without_last, key_and_spelling, untabbed, Reads, ReadsFields}
+use Rattle.applies.proofs.Words.{◌≡◌, ◌≢◌, ℕ, ◌-◌, ◌<◌, ◌^◌, true, false, List, [], ◌∷◌, ◌++◌, append_assoc, length, length-append, take, Option, Some, None, option_map, inl, inr, refl, sym, ap, ◌∙◌, arith, eq-eqb, eqb-true, true≢false, ℤ, ◌==◌, decimal, codes, join_with_byte, cases_Bool, take-append-le, take-length, All-nil, All-cons, is_name, is_line_no, day_text, is_sound, is_sound_key, key_text, spelling, fields, Key, Plain, Command, lacks_failing, and_both, all-append, Printable, is_printable, name_printable, decimal_printable, day_printable, AllPrintable, small_line, PartsPrintable, fields_printable, tabbed, history_line, IsPart, IsLine, same_Some, none-some, cut_at_tab, behind_tab, without_last, key_and_spelling, untabbed, Reads, ReadsFields}
+use Rattle.commands.specs.declared.key.Key.TheVariants.{Line}
+use Rattle.commands.proofs.Joining.{Lacks}
 
 -- ---- a text that is cut at its first tab
 

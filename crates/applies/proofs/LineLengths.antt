@@ -1,34 +1,7 @@
 -- No act has a line that is longer than may be read.
-use Rattle.std.proofs.Common.{◌≡◌, ℕ, ◌+◌, ◌*◌, ◌≤◌, ◌/◌, ◌%◌, zero, suc, Bool, true, List, [], ◌∷◌, ◌++◌, length, length-append, refl, ap, arith, lit<, eqb-true}
-use Rattle.std.specs.Prelude.{ℤ, pos, negsuc, ◌&&◌, ◌==◌, if◌then◌else◌, decimal, codes}
-use Rattle.std.specs.List.{join_with_byte, list_all}
-use Rattle.std.specs.Fmt.{signed_decimal}
-use Rattle.std.proofs.lemmas.Fmt.{length-decimal-le}
-use Rattle.std.proofs.lemmas.List.{length-map}
-use Rattle.std.proofs.lemmas.Bool.Decides.{nat_tests}
-use Rattle.values.specs.Values.{is_between, is_name, is_title, is_gtin, is_lot_text, is_delta, QTY_MAX, is_qty, is_counted, is_line_no, is_least_days}
-use Rattle.values.specs.declared.lot.LotId.{LotId}
-use Rattle.label.specs.Days.{last_digits, day_text, date_of, is_day}
-use Rattle.commands.specs.Limits.{has_order_lines}
-use Rattle.commands.specs.Words.{bin_kind_word}
-use Rattle.commands.specs.Sound.{is_sound, is_sound_key, is_lot_id, is_order_line, are_lines, is_new_order, is_picking}
-use Rattle.commands.specs.Spelling.{key_text, spelling, fields, lines_fields, order_fields}
-use Rattle.commands.specs.declared.command.BinKind.{BinKind}
-use Rattle.commands.specs.declared.command.BinKind.TheVariants.{Store, Hold as HoldBin}
-use Rattle.commands.specs.declared.command.OrderLine.{OrderLine}
-use Rattle.commands.specs.declared.command.NewOrder.{NewOrder}
-use Rattle.commands.specs.declared.command.Picking.{Picking}
-use Rattle.commands.specs.declared.key.Key.{Key}
-use Rattle.commands.specs.declared.key.Key.TheVariants.{Plain, Line}
-use Rattle.commands.specs.declared.command.Command.{Command}
-use Rattle.commands.specs.declared.command.Command.TheVariants.{Item, Bin, Receive, Move, Count, Adjust, Order, Cancel, Pick, Unpick, Ship, Hold, Release, Recall, OpenDay, Least, Urgent}
-use Rattle.commands.proofs.Joining.{and_both}
-use Rattle.commands.proofs.Digits.{long_decimal, line_room}
-use Rattle.machine.specs.Acts.{Act, next_number}
-use Rattle.machine.specs.Once.{IsHistory}
-use Rattle.machine.specs.Standing.{today}
-use Rattle.histories.specs.Text.{tabbed}
-use Rattle.histories.specs.Newer.{act_line}
+use Rattle.applies.proofs.Words.{◌≡◌, ℕ, ◌+◌, ◌*◌, ◌≤◌, ◌/◌, ◌%◌, zero, suc, Bool, true, List, [], ◌∷◌, ◌++◌, length, length-append, refl, ap, arith, lit<, eqb-true, ℤ, pos, negsuc, ◌&&◌, ◌==◌, if◌then◌else◌, decimal, codes, join_with_byte, list_all, signed_decimal, length-decimal-le, length-map, nat_tests, is_between, is_name, is_title, is_gtin, is_lot_text, is_delta, QTY_MAX, is_qty, is_counted, is_line_no, is_least_days, LotId, last_digits, day_text, date_of, is_day, has_order_lines, bin_kind_word, is_sound, is_sound_key, is_lot_id, is_order_line, are_lines, is_new_order, is_picking, key_text, spelling, fields, lines_fields, order_fields, BinKind, HoldBin, OrderLine, NewOrder, Picking, Key, Plain, Command, Item, Bin, Receive, Move, Count, Adjust, Order, Cancel, Pick, Unpick, Ship, Hold, Release, Recall, OpenDay, Least, Urgent, and_both, long_decimal, line_room, Act, next_number, IsHistory, today, tabbed, act_line}
+use Rattle.commands.specs.declared.command.BinKind.TheVariants.{Store}
+use Rattle.commands.specs.declared.key.Key.TheVariants.{Line}
 use Rattle.applies.proofs.LineFields.{line_parts}
 use Rattle.applies.proofs.Fronts.{small}
 

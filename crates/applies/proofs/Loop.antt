@@ -1,22 +1,5 @@
 -- The lines that were read so far, and the acts that were done.
-use Rattle.std.proofs.Common.{◌≡◌, ◌≢◌, ℕ, ◌+◌, List, [], ◌∷◌, ◌++◌, append_assoc, length, Option, Ok, Err, inl, inr, refl, sym, ap, subst, arith}
-use Rattle.std.specs.Prelude.{◌⊎◌, ℤ, OnSome}
-use Rattle.std.specs.Io.KnownBytes.{Consumes, IsAtEnd}
-use Rattle.std.proofs.KnownBytes.{Consumes-trans}
-use Rattle.sqlite_trees.specs.declared.store.Store.{Ghosts}
-use Rattle.sqlite_trees.specs.Tree.{Trees}
-use Rattle.machine.specs.Acts.{Act}
-use Rattle.machine.specs.Once.{IsHistory}
-use Rattle.store.specs.Connected.{Connected}
-use Rattle.store.specs.Books.{HoldsBooks}
-use Rattle.histories.specs.Newer.{newer_text}
-use Rattle.act_lines.specs.Reading.{IsPart, IsLine}
-use Rattle.act_lines.proofs.Ends.{end_back}
-use Rattle.applies.specs.Going.{IsOfNoLine, AreCommitted, OfText}
-use Rattle.applies.specs.Lines.{IsAt, Stands, MisfitsThere, IsLineAdded, LeavesLine, AreLinesDone, LeavesLines}
-use Rattle.applies.specs.declared.applied.NotApplied.{NotApplied}
-use Rattle.applies.specs.declared.applied.NotApplied.TheVariants.{Line}
-use Rattle.applies.specs.declared.next.At.{At}
+use Rattle.applies.proofs.Words.{◌≡◌, ◌≢◌, ℕ, ◌+◌, List, [], ◌∷◌, ◌++◌, append_assoc, length, Option, Ok, Err, inl, inr, refl, sym, ap, subst, arith, ◌⊎◌, ℤ, OnSome, Consumes, IsAtEnd, Consumes-trans, Ghosts, Trees, Act, IsHistory, Connected, HoldsBooks, newer_text, IsPart, IsLine, end_back, IsOfWant, AreCommitted, OfText, IsAt, Stands, MisfitsThere, IsLineAdded, LeavesLine, AreLinesDone, LeavesLines, NotApplied, Line, At}
 use Rattle.applies.proofs.Texts.{no_line, told_on, told_at_end}
 
 module _ {S R : Type 0} (g : Ghosts S) (remaining : R → Option (List ℕ)) (left : Option (List ℕ)) (first begun : ℤ) (acts : List Act) (line : List ℕ) (lines : ℕ) where
@@ -80,7 +63,7 @@ module _ {S R : Type 0} (g : Ghosts S) (remaining : R → Option (List ℕ)) (le
       (record { newer = c.newer; history = c.history; behind = next; is = refl; ended = (part, c.some, c.count); holds = c.holds; lasts = c.lasts })
 
   pub fails_behind : (at : At) (now then : R) (next : List ℕ) (books : Connected S) → Came at now books → Consumes (remaining now) (remaining then) next → (fault : NotApplied)
-      → IsOfNoLine fault ⊎ ((fault ≡ Line (at.lines + 1)) × IsPart next × (length next ≡ 8_192)) → OfText left (λ text. AreLinesDone g first begun acts line text lines (Err fault) books)
+      → IsOfWant fault ⊎ ((fault ≡ Line (at.lines + 1)) × IsPart next × (length next ≡ 8_192)) → OfText left (λ text. AreLinesDone g first begun acts line text lines (Err fault) books)
   fails_behind at now then next books c read fault why =
       told_on left (remaining then) (newer_text begun c.newer acts ++ next) (λ text. AreLinesDone g first begun acts line text lines (Err fault) books)
       (Consumes-trans left (remaining now) (remaining then) (newer_text begun c.newer acts) next c.read read)
@@ -108,7 +91,7 @@ module _ {S R : Type 0} (g : Ghosts S) (remaining : R → Option (List ℕ)) (le
       })
 
   pub fails_at : (at : At) (now : R) (last : List ℕ) (books later : Connected S) (c : Comes at now last books) (fault : NotApplied) → HoldsBooks g first (c.newer ++ acts) later
-      → IsOfNoLine fault ⊎ MisfitsThere first begun (c.newer ++ acts) at.lines last fault → OfText left (λ text. AreLinesDone g first begun acts line text lines (Err fault) later)
+      → IsOfWant fault ⊎ MisfitsThere first begun (c.newer ++ acts) at.lines last fault → OfText left (λ text. AreLinesDone g first begun acts line text lines (Err fault) later)
   fails_at at now last books later c fault holds why =
       told_on left (remaining now) (newer_text begun c.newer acts ++ last) (λ text. AreLinesDone g first begun acts line text lines (Err fault) later) c.read
       (λ rest. record {

@@ -1,15 +1,5 @@
 -- Lists of acts that end with the same ones, and where the lines of one stand in the text of another.
-use Rattle.std.proofs.Common.{◌≡◌, ◌≢◌, ℕ, ◌+◌, ◌-◌, ◌<◌, ◌≤◌, ◌^◌, List, [], ◌∷◌, ◌++◌, append_assoc, length, length-append, inl, inr, refl, sym, ap, subst, ◌∙◌, arith}
-use Rattle.std.specs.Prelude.{◌⊎◌, ℤ, decimal}
-use Rattle.std.proofs.lemmas.Fmt.{decimal_injective}
-use Rattle.commands.specs.Spelling.{key_text, spelling}
-use Rattle.commands.proofs.Joining.{first_part}
-use Rattle.machine.specs.Acts.{Act, next_number}
-use Rattle.machine.specs.Once.{IsHistory}
-use Rattle.machine.specs.Standing.{today, day_after_command}
-use Rattle.histories.specs.Text.{history_line}
-use Rattle.histories.specs.Newer.{act_line}
-use Rattle.act_lines.specs.Reading.{IsPart, IsNumbered}
+use Rattle.applies.proofs.Words.{◌≡◌, ◌≢◌, ℕ, ◌+◌, ◌-◌, ◌<◌, ◌≤◌, ◌^◌, List, [], ◌∷◌, ◌++◌, append_assoc, length, length-append, inl, inr, refl, sym, ap, subst, ◌∙◌, arith, ◌⊎◌, ℤ, decimal, decimal_injective, key_text, spelling, first_part, Act, next_number, IsHistory, today, day_after_command, history_line, act_line, IsPart, IsNumbered}
 use Rattle.applies.proofs.LineFields.{line_parts, number_lacks}
 use Rattle.applies.proofs.Fronts.{small, act_is_line, one_act, same_line, part_no_line, onto, onto_twice, onto_again, forward, onto_history}
 

@@ -1,31 +1,8 @@
 -- The line of the act that comes next, and what comes of the act.
-use Rattle.std.proofs.Common.{◌≡◌, ℕ, ◌+◌, ◌<◌, ◌^◌, false, List, ◌∷◌, Some, None, Ok, Err, inl, inr, refl, sym, ap, subst, ◌∙◌, arith, true≢false}
-use Rattle.std.specs.Prelude.{◌⊎◌, ℤ}
-use Rattle.std.proofs.lemmas.Option.{same_Some, none-some}
-use Rattle.sqlite_trees.specs.declared.store.Store.{Ghosts}
-use Rattle.sqlite_trees.specs.Tree.{Trees}
-use Rattle.sqlite.specs.Held.{state}
-use Rattle.commands.specs.Spelling.{key_text, spelling}
-use Rattle.commands.specs.declared.key.Key.{Key}
-use Rattle.commands.specs.declared.command.Command.{Command}
-use Rattle.machine.specs.Acts.{Act, next_number}
-use Rattle.machine.specs.Standing.{day_after_command}
-use Rattle.machine.specs.Once.{Outcome, Accepted, Repeated, Refused, outcome, appended, acts_after, is_key_of, IsSoundRequest, IsHistory}
-use Rattle.histories.specs.Text.{history_line}
-use Rattle.histories.specs.Newer.{act_line}
-use Rattle.store.specs.Connected.{Connected}
-use Rattle.store.specs.Books.{AreBooks, LeavesOnly}
-use Rattle.replays.specs.Replaying.{IsReplayed}
-use Rattle.replays.specs.declared.fault.NotReplayed.{NotReplayed}
+use Rattle.applies.proofs.Words.{◌≡◌, ℕ, ◌+◌, ◌<◌, ◌^◌, false, List, ◌∷◌, Some, None, Ok, Err, inl, inr, refl, sym, ap, subst, ◌∙◌, arith, true≢false, ◌⊎◌, ℤ, same_Some, none-some, Ghosts, Trees, state, key_text, spelling, Key, Command, Act, next_number, day_after_command, Outcome, Accepted, Repeated, outcome, appended, acts_after, is_key_of, IsSoundRequest, IsHistory, history_line, act_line, Connected, AreBooks, LeavesOnly, IsReplayed, NotReplayed, goes_on_history, Reads, IsOfWant, next_line, act_of, IsNext, IsNoNext, IsPlaced, IsNotDone, IsAt, MisfitsThere, IsLineAdded, LeavesLine, NotApplied, At, NextAct}
+use Rattle.machine.specs.Once.{Refused}
 use Rattle.replays.specs.declared.fault.NotReplayed.TheVariants as again
-use Rattle.replays.proofs.Steps.{goes_on_history}
-use Rattle.applies.specs.Fields.{Reads}
-use Rattle.applies.specs.Going.{IsOfNoLine}
-use Rattle.applies.specs.Lines.{next_line, act_of, IsNext, IsNoNext, IsPlaced, IsNotDone, IsAt, MisfitsThere, IsLineAdded, LeavesLine}
-use Rattle.applies.specs.declared.applied.NotApplied.{NotApplied}
 use Rattle.applies.specs.declared.applied.NotApplied.TheVariants as told
-use Rattle.applies.specs.declared.next.At.{At}
-use Rattle.applies.specs.declared.next.NextAct.{NextAct}
 
 pub next_is : (begun : ℤ) (acts : List Act) (at : At) (act : Act) → IsAt begun acts at → next_line at act ≡ act_line begun act acts
 next_is begun acts at act h =
@@ -65,11 +42,11 @@ module _ (first begun : ℤ) (acts : List Act) (line : List ℕ) (at : At) (is :
 
     -- it was not
     pub wrong : {S : Type 0} (g : Ghosts S) (books : Connected S) (fault : NotReplayed) (why : NotApplied) → IsReplayed g first acts (act_of next) next.number (Err fault) books → IsNotDone fault next.line why
-        → IsOfNoLine why ⊎ MisfitsThere first begun acts at.lines line why
+        → IsOfWant why ⊎ MisfitsThere first begun acts at.lines line why
     wrong g books (again.Unspelled n) why h t = absurd (true≢false (sym own.sound.kind ∙ h.1))
     wrong g books (again.Refused n cause) why h t =
         inr (subst (MisfitsThere first begun acts at.lines line) (sym t) (h.0 ∙ number_is, record { act = act_of next; sound = own.sound; is = line_is; refused = h.2 }))
-    wrong g books again.Store why h t = inl (subst IsOfNoLine (sym t) tt)
+    wrong g books again.Store why h t = inl (subst IsOfWant (sym t) tt)
     wrong g books again.Foreign why h t = absurd h
 
     by_outcome : (trees : Trees) (o : Outcome) → outcome first acts (act_of next) ≡ o → IsHistory first acts → AreBooks first (appended (act_of next) acts o) trees → LeavesLine first begun acts line trees

@@ -1,22 +1,7 @@
 -- The text as a whole: the lines of acts that the books had, and those behind them.
-use Rattle.std.proofs.Common.{◌≡◌, ◌≢◌, ℕ, ◌+◌, ◌-◌, List, [], ◌∷◌, ◌++◌, append_assoc, append-nil, length, length-append, Result, Ok, Err, inl, inr, refl, sym, ap, subst, ◌∙◌, arith}
-use Rattle.std.specs.Prelude.{◌⊎◌, ℤ, OnOk}
-use Rattle.std.proofs.lemmas.List.Elements.{All-nil}
-use Rattle.sqlite_trees.specs.declared.store.Store.{Ghosts}
-use Rattle.sqlite_trees.specs.Tree.{Trees}
-use Rattle.machine.specs.Acts.{Act}
-use Rattle.machine.specs.Once.{IsHistory}
-use Rattle.store.specs.Connected.{Connected}
-use Rattle.store.specs.Books.{AreBooks, HoldsBooks}
-use Rattle.histories.specs.Newer.{act_line, newer_text}
-use Rattle.act_lines.specs.Reading.{IsPart}
-use Rattle.applies.specs.Going.{GoneOn, IsOfNone, Misfits, IsOfNoLine, AreCommitted, StopsAtLine, IsDone, GoesOn, Leaves}
-use Rattle.applies.specs.Known.{counted}
-use Rattle.applies.specs.Lines.{GoesOnByNone, MisfitsThere, EndsAtLine, AreLinesDone, IsBehindEnded, AreBehindDone, LeavesLines}
-use Rattle.applies.specs.declared.applied.Applied.{Applied}
-use Rattle.applies.specs.declared.applied.NotApplied.{NotApplied}
-use Rattle.applies.specs.declared.applied.NotApplied.TheVariants.{Differs, Lacks, Line, Refused, Input, Store, Foreign}
+use Rattle.applies.proofs.Words.{◌≡◌, ◌≢◌, ℕ, ◌+◌, ◌-◌, List, [], ◌∷◌, ◌++◌, append_assoc, append-nil, length, length-append, Result, Ok, Err, inl, inr, refl, sym, ap, subst, ◌∙◌, arith, ◌⊎◌, ℤ, OnOk, All-nil, Ghosts, Trees, Act, IsHistory, Connected, AreBooks, HoldsBooks, act_line, newer_text, IsPart, GoneOn, IsOfNone, Misfits, IsOfWant, IsOfNoLine, AreCommitted, StopsAtLine, IsDone, GoesOn, Leaves, counted, GoesOnByNone, MisfitsThere, EndsAtLine, AreLinesDone, IsBehindEnded, AreBehindDone, LeavesLines, Applied, NotApplied, Differs, Lacks, Line, Refused, Input, Store, Foreign}
 use Rattle.applies.proofs.Texts.{newer_joined, no_line}
+use Rattle.applies.proofs.Wants.{of_want}
 
 pub nothing : IsPart []
 nothing = All-nil (λ b. b ≢ 10)
@@ -72,7 +57,7 @@ module _ (first begun : ℤ) (acts : List Act) where
   pub stops_own : (text : List ℕ) (fault : NotApplied) → IsOfNoLine fault → StopsAtLine first begun acts text [] fault
   stops_own text fault own = record { front = []; behind = text; parts = refl; gone = none_gone; whole = refl; why = inl own }
 
-  stops_first : (head text behind : List ℕ) (fault : NotApplied) → text ≡ behind → Unlike head → IsOfNoLine fault ⊎ ((end : EndsAtLine first begun acts [] 0 behind fault) × (◌≡◌ {A = List Act} [] [] → end.line ≡ head))
+  stops_first : (head text behind : List ℕ) (fault : NotApplied) → text ≡ behind → Unlike head → IsOfWant fault ⊎ ((end : EndsAtLine first begun acts [] 0 behind fault) × (◌≡◌ {A = List Act} [] [] → end.line ≡ head))
       → StopsAtLine first begun acts text [] fault
   stops_first head text behind fault is unlike why = record {
     front = [];
@@ -81,7 +66,7 @@ module _ (first begun : ℤ) (acts : List Act) where
     gone = none_gone;
     whole = refl;
     why = elim why [
-      | inl own ↦ inl own
+      | inl own ↦ inl (of_want fault own)
       | inr e ↦ inr (e.0.line, e.0.more, e.0.parts, e.0.piece, misfits_first head e.0.line unlike (e.1 refl) fault e.0.misfits)
     ];
   }
@@ -137,14 +122,14 @@ module _ (first begun : ℤ) (acts : List Act) where
       misfits_on line Store m = absurd m
       misfits_on line Foreign m = absurd m
 
-      stops_on : (text behind : List ℕ) (fault : NotApplied) → text ≡ front ++ behind → IsOfNoLine fault ⊎ EndsAtLine first begun acts newer (length known) behind fault → StopsAtLine first begun acts text newer fault
+      stops_on : (text behind : List ℕ) (fault : NotApplied) → text ≡ front ++ behind → IsOfWant fault ⊎ EndsAtLine first begun acts newer (length known) behind fault → StopsAtLine first begun acts text newer fault
       stops_on text behind fault is why = record {
         front = front;
         behind = behind;
         parts = is;
         gone = end_gone;
         whole = refl;
-        why = elim why [ inl own ↦ inl own | inr e ↦ inr (e.line, e.more, e.parts, e.piece, misfits_on e.line fault e.misfits) ];
+        why = elim why [ inl own ↦ inl (of_want fault own) | inr e ↦ inr (e.line, e.more, e.parts, e.piece, misfits_on e.line fault e.misfits) ];
       }
 
     -- known lines came, and then these
@@ -176,7 +161,7 @@ module _ (first begun : ℤ) (acts : List Act) where
 
   module _ {S : Type 0} (g : Ghosts S) (head : List ℕ) (unlike : Unlike head) where
     first_result : (text behind : List ℕ) (newer : List Act) → text ≡ newer_text begun newer acts ++ behind → (fault : NotApplied)
-        → IsOfNoLine fault ⊎ ((end : EndsAtLine first begun acts newer 0 behind fault) × (newer ≡ [] → end.line ≡ head)) → StopsAtLine first begun acts text newer fault
+        → IsOfWant fault ⊎ ((end : EndsAtLine first begun acts newer 0 behind fault) × (newer ≡ [] → end.line ≡ head)) → StopsAtLine first begun acts text newer fault
     first_result text behind [] e fault h = stops_first head text behind fault e unlike h
     first_result text behind (act ∷ newer) e fault h =
         stops_on [] acts refl (act ∷ newer) (λ n _. cc) text behind fault (whole_is [] acts refl text behind (act ∷ newer) e) (elim h [ inl own ↦ inl own | inr end ↦ inr end.0 ])
@@ -226,7 +211,7 @@ behind_of g first begun acts head text lines (Err fault) books d =
 
 -- the first line behind so many is too long
 pub long_behind : {S : Type 0} (g : Ghosts S) (first begun : ℤ) (acts : List Act) (books : Connected S) (lines : ℕ) (line rest : List ℕ) (fault : NotApplied) → IsHistory first acts → HoldsBooks g first acts books
-    → IsOfNoLine fault ⊎ ((fault ≡ Line (lines + 1)) × IsPart line × (length line ≡ 8_192)) → AreBehindDone g first begun acts (line ++ rest) lines (Err fault) books
+    → IsOfWant fault ⊎ ((fault ≡ Line (lines + 1)) × IsPart line × (length line ≡ 8_192)) → AreBehindDone g first begun acts (line ++ rest) lines (Err fault) books
 long_behind g first begun acts books lines line rest fault history holds why = record {
   newer = [];
   history = history;

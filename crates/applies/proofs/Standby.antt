@@ -1,15 +1,5 @@
 -- The text of a whole history, applied to new books.
-use Rattle.std.proofs.Common.{◌≡◌, List, [], ◌∷◌, ◌++◌, append-nil, refl, sym, ap, subst, ◌∙◌}
-use Rattle.std.specs.Prelude.{ℤ, Option, option_map}
-use Rattle.std.proofs.lemmas.Option.{same_Some}
-use Rattle.commands.specs.declared.rows.MetaRow.{MetaRow}
-use Rattle.machine.specs.Acts.{Act}
-use Rattle.machine.specs.Once.{IsHistory}
-use Rattle.machine.specs.Tables.{Tables, tables_of}
-use Rattle.histories.specs.Text.{history_text}
-use Rattle.histories.specs.Newer.{act_line, newer_text}
-use Rattle.store.specs.Books.{AreBooks}
-use Rattle.applies.specs.Laws.{StandbyIsPrimary}
+use Rattle.applies.proofs.Words.{◌≡◌, List, [], ◌∷◌, ◌++◌, append-nil, refl, sym, ap, subst, ◌∙◌, ℤ, Option, option_map, same_Some, MetaRow, Act, IsHistory, Tables, tables_of, history_text, act_line, newer_text, AreBooks, StandbyIsPrimary}
 use Rattle.applies.proofs.Passed.{no_front, no_back}
 use Rattle.applies.proofs.Fronts.{one_list}
 

@@ -1,40 +1,5 @@
 -- The text of a history that goes on with the acts of books: no line of it is a misfit.
-use Rattle.std.proofs.Common.{◌≡◌, ◌≢◌, ℕ, ◌<◌, ◌≤◌, ◌^◌, List, [], ◌∷◌, ◌++◌, append_assoc, append-nil, length, length-append, Option, Some, None, Result, Ok, Err, inl, inr, refl, sym, ap, subst, ◌∙◌, arith}
-use Rattle.std.specs.Prelude.{◌⊎◌, ℤ, IfSome}
-use Rattle.std.specs.Io.KnownBytes.{Consumes}
-use Rattle.std.proofs.lemmas.Bool.{cases_lt}
-use Rattle.std.proofs.lemmas.Bool.Decides.{nat_tests}
-use Rattle.std.proofs.lemmas.Option.{same_Some, none-some}
-use Rattle.std.proofs.lemmas.List.{append_cancel_right}
-use Rattle.std.proofs.lemmas.List.Elements.{All-head, All-tail}
-use Rattle.sqlite_trees.specs.declared.store.Store.{Ghosts}
-use Rattle.commands.specs.Spelling.{key_text, spelling}
-use Rattle.commands.specs.declared.key.Key.{Key}
-use Rattle.commands.specs.declared.command.Command.{Command}
-use Rattle.commands.proofs.OneText.{one_text}
-use Rattle.commands.proofs.OneSpelling.{one_spelling}
-use Rattle.machine.specs.Acts.{Act, next_number}
-use Rattle.machine.specs.Standing.{today}
-use Rattle.machine.specs.Once.{IsHistory, IsSoundRequest, outcome}
-use Rattle.machine.proofs.histories.Accepted.{room_for_acts}
-use Rattle.store.specs.Connected.{Connected}
-use Rattle.store.specs.Books.{HoldsBooks}
-use Rattle.histories.specs.Text.{tabbed}
-use Rattle.histories.specs.Newer.{act_line, newer_text}
-use Rattle.act_lines.specs.Reading.{IsPart, IsLine, IsPiece, IsNumbered}
-use Rattle.act_lines.specs.Walked.{IsRead}
-use Rattle.act_lines.specs.declared.known.Place.{Place}
-use Rattle.act_lines.specs.declared.known.Place.TheVariants.{Before, Within, Behind}
-use Rattle.replays.specs.Replaying.{cause}
-use Rattle.histories.proofs.Acts.{earlier}
-use Rattle.replays.proofs.Steps.{accepted_there}
-use Rattle.applies.specs.Begun.{BegunOn, FitsLine}
-use Rattle.applies.specs.Fields.{untabbed, key_and_spelling}
-use Rattle.applies.specs.Going.{GoneOn, MayCome, Misfits, IsOfNoLine, IsDone, GoesOn, OfText}
-use Rattle.applies.specs.Taken.{IsTakenBy, IsTaken}
-use Rattle.applies.specs.declared.applied.Applied.{Applied}
-use Rattle.applies.specs.declared.applied.NotApplied.{NotApplied}
-use Rattle.applies.specs.declared.applied.NotApplied.TheVariants.{Differs, Lacks, Line, Refused, Input, Store, Foreign}
+use Rattle.applies.proofs.Words.{◌≡◌, ◌≢◌, ℕ, ◌<◌, ◌≤◌, ◌^◌, List, [], ◌∷◌, ◌++◌, append_assoc, append-nil, length, length-append, Option, Some, None, Result, Ok, Err, inl, inr, refl, sym, ap, subst, ◌∙◌, arith, ◌⊎◌, ℤ, IfSome, Consumes, cases_lt, nat_tests, same_Some, none-some, append_cancel_right, All-head, All-tail, Ghosts, key_text, spelling, Key, Command, one_text, one_spelling, Act, next_number, today, IsHistory, IsSoundRequest, outcome, room_for_acts, Connected, HoldsBooks, tabbed, act_line, newer_text, IsPart, IsLine, IsPiece, IsNumbered, IsRead, Place, Before, Within, Behind, cause, earlier, accepted_there, BegunOn, FitsLine, untabbed, key_and_spelling, GoneOn, MayCome, Misfits, IsOfNoLine, IsDone, GoesOn, OfText, IsTakenBy, IsTaken, Applied, NotApplied, Differs, Lacks, Line, Refused, Input, Store, Foreign}
 use Rattle.applies.proofs.LineFields.{lacks, key_printable, spelling_lacks, key_cut, untabbed_again}
 use Rattle.applies.proofs.LineLengths.{line_length}
 use Rattle.applies.proofs.Passed.{no_front, no_back}

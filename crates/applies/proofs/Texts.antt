@@ -1,12 +1,5 @@
 -- Texts of acts one behind another, and what a reader has left of a text.
-use Rattle.std.proofs.Common.{◌≡◌, ◌≢◌, ℕ, List, [], ◌∷◌, ◌++◌, append_assoc, append-nil, length, length-append, Option, Some, None, refl, sym, ap, ◌∙◌, arith}
-use Rattle.std.specs.Prelude.{ℤ, OnSome}
-use Rattle.std.specs.Io.KnownBytes.{Consumes, IsAtEnd}
-use Rattle.std.proofs.lemmas.List.Elements.{All-head, All-tail}
-use Rattle.machine.specs.Acts.{Act}
-use Rattle.histories.specs.Newer.{act_line, newer_text}
-use Rattle.act_lines.specs.Reading.{IsPart}
-use Rattle.applies.specs.Going.{OfText}
+use Rattle.applies.proofs.Words.{◌≡◌, ◌≢◌, ℕ, List, [], ◌∷◌, ◌++◌, append_assoc, append-nil, length, length-append, Option, Some, None, refl, sym, ap, ◌∙◌, arith, ℤ, OnSome, Consumes, IsAtEnd, All-head, All-tail, Act, act_line, newer_text, IsPart, OfText}
 
 -- the lines of the newer acts come behind those that are known
 pub newer_joined : (begun : ℤ) (newer known older : List Act) → newer_text begun (newer ++ known) older ≡ newer_text begun known older ++ newer_text begun newer (known ++ older)

@@ -1,23 +1,8 @@
 -- How the walk over the rows of the acts ended, and what a stop leaves then.
-use Rattle.std.proofs.Common.{ℕ, List, Option, Err, inl, inr, refl, sym, subst, arith}
-use Rattle.std.specs.Prelude.{◌⊎◌, ℤ}
-use Rattle.sqlite.specs.State.{State, HasCleanDisk, Survives}
-use Rattle.sqlite.proofs.StateLemmas.{survives_then, survives_weaker}
-use Rattle.sqlite_trees.specs.Tree.{Trees}
-use Rattle.commands.specs.Sinks.{ReachesWithin}
-use Rattle.machine.specs.Acts.{Act}
-use Rattle.store.specs.Handing.{HandsRecords, NoBooks}
-use Rattle.store.specs.declared.fault.Fault.{Fault}
+use Rattle.applies.proofs.Words.{ℕ, List, Option, Err, inl, inr, refl, sym, subst, arith, ◌⊎◌, ℤ, State, HasCleanDisk, Survives, survives_then, survives_weaker, Trees, ReachesWithin, Act, HandsRecords, NoBooks, Fault, IsNoMisfit, HasBroken, MissesLine, LineFault, KnownLines, IsOfNoLine, IsToldAs, ArePassed, NotApplied}
 use Rattle.store.specs.declared.fault.Fault.TheVariants as store
 use Rattle.store.specs.declared.each_fault.EachFault.TheVariants as each
-use Rattle.act_lines.specs.Known.{IsNoMisfit}
-use Rattle.act_lines.specs.Walked.{HasBroken, MissesLine}
-use Rattle.act_lines.specs.declared.fault.LineFault.{LineFault}
-use Rattle.act_lines.specs.declared.fault.LineFault.TheVariants as line
-use Rattle.act_lines.specs.declared.known.KnownLines.{KnownLines}
-use Rattle.applies.specs.Going.{IsOfNoLine}
-use Rattle.applies.specs.Known.{IsToldAs, ArePassed}
-use Rattle.applies.specs.declared.applied.NotApplied.{NotApplied}
+use Rattle.histories.specs.declared.line_fault.LineFault.TheVariants as line
 
 own_told : (l : LineFault) (known : ℕ) (fault : NotApplied) → IsNoMisfit l → IsToldAs l known fault → IsOfNoLine fault
 own_told line.Memory known fault own is = subst IsOfNoLine (sym is) tt

@@ -1,27 +1,6 @@
 -- What the walk over the rows of the acts comes to.
-use Rattle.std.proofs.Common.{◌≡◌, ◌≢◌, ℕ, ◌+◌, ◌-◌, List, [], ◌∷◌, ◌++◌, append_assoc, append-nil, length, length-append, Option, Result, Ok, Err, inl, inr, refl, sym, ap, subst, ◌∙◌, arith}
-use Rattle.std.specs.Prelude.{◌⊎◌, ℤ, OnSome}
-use Rattle.std.specs.Io.KnownBytes.{Consumes, IsAtEnd}
-use Rattle.std.proofs.KnownBytes.{Consumes-trans}
-use Rattle.sqlite_trees.specs.declared.store.Store.{Ghosts}
-use Rattle.machine.specs.Acts.{Act, next_number}
-use Rattle.machine.specs.Once.{IsHistory}
-use Rattle.store.specs.Connected.{Connected}
-use Rattle.store.specs.Books.{HoldsBooks}
-use Rattle.histories.specs.Newer.{act_line, newer_text}
-use Rattle.act_lines.specs.Reading.{IsPart, IsLine, IsPiece, IsNumbered}
-use Rattle.act_lines.specs.Known.{IsUnlike}
-use Rattle.act_lines.specs.Walked.{AtPlace, WithinText, BehindText, HasBroken, MissesLine, IsRead}
-use Rattle.act_lines.specs.declared.fault.LineFault.{LineFault}
-use Rattle.act_lines.specs.declared.fault.LineFault.TheVariants as told
-use Rattle.act_lines.specs.declared.known.KnownLines.{KnownLines}
-use Rattle.act_lines.specs.declared.known.Place.{Place}
-use Rattle.act_lines.specs.declared.known.Place.TheVariants.{Before, Within, Behind}
-use Rattle.applies.specs.Going.{GoneOn, IsOfNone, IsOfNoLine, Misfits, StopsAtLine, GoesOn, OfText}
-use Rattle.applies.specs.Known.{IsToldAs, ArePassed}
-use Rattle.applies.specs.declared.applied.Applied.{Applied}
-use Rattle.applies.specs.declared.applied.NotApplied.{NotApplied}
-use Rattle.applies.specs.declared.applied.NotApplied.TheVariants.{Differs}
+use Rattle.applies.proofs.Words.{◌≡◌, ◌≢◌, ℕ, ◌+◌, ◌-◌, List, [], ◌∷◌, ◌++◌, append_assoc, append-nil, length, length-append, Option, Result, Ok, Err, inl, inr, refl, sym, ap, subst, ◌∙◌, arith, ◌⊎◌, ℤ, OnSome, Consumes, IsAtEnd, Consumes-trans, Ghosts, Act, next_number, IsHistory, Connected, HoldsBooks, act_line, newer_text, IsPart, IsLine, IsPiece, IsNumbered, IsUnlike, AtPlace, WithinText, BehindText, HasBroken, MissesLine, IsRead, LineFault, KnownLines, Place, Before, Within, Behind, GoneOn, IsOfNone, IsOfNoLine, Misfits, StopsAtLine, GoesOn, OfText, IsToldAs, ArePassed, Applied, NotApplied, Differs}
+use Rattle.histories.specs.declared.line_fault.LineFault.TheVariants as told
 use Rattle.applies.proofs.Texts.{one_place, told_on, told_at_end, told_any}
 use Rattle.applies.proofs.Passed.{nothing, none_gone, stops_own}
 

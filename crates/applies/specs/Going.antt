@@ -6,10 +6,11 @@ use Rattle.sqlite.specs.Held.{state}
 use Rattle.commands.specs.declared.refusal.Refusal.{Refusal}
 use Rattle.machine.specs.Acts.{Act, next_number}
 use Rattle.machine.specs.Once.{IsHistory, IsSoundRequest, outcome}
+use Rattle.histories.specs.Books.{AreInTurn}
 use Rattle.histories.specs.Newer.{act_line, newer_text}
-use Rattle.act_lines.specs.Reading.{IsPart, IsNumbered, IsPiece}
-use Rattle.act_lines.specs.declared.reading.ReadFault.{ReadFault}
-use Rattle.act_lines.specs.declared.reading.ReadFault.TheVariants as read
+use Rattle.histories.specs.Reading.{IsPart, IsNumbered, IsPiece}
+use Rattle.histories.specs.declared.reading.ReadFault.{ReadFault}
+use Rattle.histories.specs.declared.reading.ReadFault.TheVariants as read
 use Rattle.replays.specs.Replaying.{cause, IsOpen}
 use Rattle.store.specs.Connected.{Connected}
 use Rattle.store.specs.Books.{AreBooks, HoldsBooks, LeavesOnly}
@@ -78,9 +79,19 @@ module _ (first begun : ℤ) (acts : List Act) (front : List ℕ) (newer : List 
   Misfits line (Lacks n) = (n ≡ next_number (newer ++ acts)) × ((m : ℕ) × (n < m) × IsNumbered m line) × IsOfNone line
   Misfits line (Line n) = (n ≡ length (newer ++ gone.known) + 1) × IsOfNone line
   Misfits line (Refused n why) = (n ≡ next_number (newer ++ acts)) × IsOfRefused why line
-  Misfits line Input = Unit {0}
-  Misfits line Store = Unit {0}
-  Misfits line Foreign = Unit {0}
+  Misfits line Input = ⊥
+  Misfits line Store = ⊥
+  Misfits line Foreign = ⊥
+
+-- memory, the disk or the input did not suffice
+abbrev pub IsOfWant : NotApplied → Type 0
+IsOfWant Input = Unit {0}
+IsOfWant Store = Unit {0}
+IsOfWant Foreign = ⊥
+IsOfWant (Differs n) = ⊥
+IsOfWant (Lacks n) = ⊥
+IsOfWant (Line n) = ⊥
+IsOfWant (Refused n why) = ⊥
 
 -- the fault tells of no line
 abbrev pub IsOfNoLine : NotApplied → Type 0
@@ -117,6 +128,15 @@ IsDone first begun acts text newer (Err fault) = StopsAtLine first begun acts te
 pub record AreCommitted {S : Type 0} (g : Ghosts S) (first : ℤ) (acts : List Act) (books : Connected S) : Type 0 where
   pub is_open : IsOpen g books
   pub leaves : LeavesOnly first acts (state g books.conn)
+
+-- the connection is open, and the rows of the acts are stored in another order than that of the acts
+pub record AreOutOfTurn {S : Type 0} (g : Ghosts S) (books : Connected S) : Type 0 where
+  pub is_open : IsOpen g books
+  pub order : ¬ AreInTurn (state g books.conn).now.trees
+
+-- it is told that the books are foreign only where that is so
+abbrev pub IsOfRows : {S : Type 0} → Ghosts S → Connected S → NotApplied → Type 0
+IsOfRows g books fault = fault ≡ Foreign → AreOutOfTurn g books
 
 -- over the books of the acts the newer acts were done, which go on with their history
 pub record GoesOn {S : Type 0} (g : Ghosts S) (first begun : ℤ) (acts : List Act) (text : List ℕ) (result : Result Applied NotApplied) (books : Connected S) : Type 0 where

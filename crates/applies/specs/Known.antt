@@ -1,10 +1,10 @@
 -- The lines of the acts that the books have.
 use Rattle.std.specs.Prelude.{◌≡◌, ◌⊎◌, ◌+◌, ◌-◌, ℕ, ℤ, List, Option, Result, Ok, Err}
 use Rattle.machine.specs.Acts.{Act}
-use Rattle.act_lines.specs.declared.fault.LineFault.{LineFault}
-use Rattle.act_lines.specs.declared.fault.LineFault.TheVariants as line
-use Rattle.act_lines.specs.declared.known.KnownLines.{KnownLines}
-use Rattle.act_lines.specs.Walked.{HasPassed, HasBroken, MissesLine}
+use Rattle.histories.specs.declared.line_fault.LineFault.{LineFault}
+use Rattle.histories.specs.declared.line_fault.LineFault.TheVariants as line
+use Rattle.histories.specs.declared.known.KnownLines.{KnownLines}
+use Rattle.histories.specs.Walked.{HasPassed, HasBroken, MissesLine}
 use Rattle.applies.specs.Going.{IsOfNoLine}
 use Rattle.applies.specs.declared.applied.Applied.{Applied}
 use Rattle.applies.specs.declared.applied.NotApplied.{NotApplied}

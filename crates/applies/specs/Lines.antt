@@ -10,13 +10,13 @@ use Rattle.machine.specs.Standing.{today, day_after_command}
 use Rattle.machine.specs.Once.{IsHistory, IsSoundRequest, outcome}
 use Rattle.histories.specs.Text.{history_line}
 use Rattle.histories.specs.Newer.{act_line, newer_text}
-use Rattle.act_lines.specs.Reading.{IsPart, IsLine, IsNumbered, IsPiece}
+use Rattle.histories.specs.Reading.{IsPart, IsLine, IsNumbered, IsPiece}
 use Rattle.replays.specs.Replaying.{cause}
 use Rattle.replays.specs.declared.fault.NotReplayed.{NotReplayed}
 use Rattle.replays.specs.declared.fault.NotReplayed.TheVariants as again
 use Rattle.store.specs.Connected.{Connected}
 use Rattle.store.specs.Books.{AreBooks, HoldsBooks}
-use Rattle.applies.specs.Going.{IsOfNoLine, AreCommitted}
+use Rattle.applies.specs.Going.{IsOfWant, AreCommitted}
 use Rattle.applies.specs.declared.applied.Applied.{Applied}
 use Rattle.applies.specs.declared.applied.NotApplied.{NotApplied}
 use Rattle.applies.specs.declared.applied.NotApplied.TheVariants.{Differs, Lacks, Line, Refused, Input, Store, Foreign}
@@ -61,7 +61,7 @@ IsNoNext at line = (act : Act) → IsSoundRequest act → line ≢ next_line at 
 -- what is read of the next line
 abbrev pub IsNextRead : At → List ℕ → Result NextAct NotApplied → Type 0
 IsNextRead at line (Ok next) = IsNext at line next
-IsNextRead at line (Err fault) = IsOfNoLine fault ⊎ (IsPlaced (at.done + 1) (at.lines + 1) line fault × IsNoNext at line)
+IsNextRead at line (Err fault) = IsOfWant fault ⊎ (IsPlaced (at.done + 1) (at.lines + 1) line fault × IsNoNext at line)
 
 -- why an act is not done again, as the line at this place tells it
 abbrev pub IsNotDone : NotReplayed → (place : ℕ) → NotApplied → Type 0
@@ -118,7 +118,7 @@ pub record IsLineAdded {S : Type 0} (g : Ghosts S) (first begun : ℤ) (acts : L
 abbrev pub IsLineDone : {S : Type 0} → Ghosts S → (first begun : ℤ) → (acts : List Act) → (line : List ℕ) → (before after : At) → Result (Unit {0}) NotApplied → Connected S → Type 0
 IsLineDone g first begun acts line before after (Ok done) books = IsLineAdded g first begun acts line before after books
 IsLineDone g first begun acts line before after (Err fault) books =
-    HoldsBooks g first acts books × (IsOfNoLine fault ⊎ MisfitsThere first begun acts before.lines line fault)
+    HoldsBooks g first acts books × (IsOfWant fault ⊎ MisfitsThere first begun acts before.lines line fault)
 
 -- a stop leaves the books of the acts, or of that of the line too
 abbrev pub LeavesLine : (first begun : ℤ) → (acts : List Act) → (line : List ℕ) → Trees → Type 0
@@ -137,7 +137,7 @@ pub record EndsAtLine (first begun : ℤ) (acts newer : List Act) (lines : ℕ) 
 abbrev pub IsTextEnded : (first begun : ℤ) → (acts newer : List Act) → (head : List ℕ) → (lines : ℕ) → (behind : List ℕ) → Result ℕ NotApplied → Type 0
 IsTextEnded first begun acts newer head lines behind (Ok all) = IsPart behind × (newer ≢ []) × (all ≡ lines + length newer)
 IsTextEnded first begun acts newer head lines behind (Err fault) =
-    IsOfNoLine fault ⊎ ((end : EndsAtLine first begun acts newer lines behind fault) × (newer ≡ [] → end.line ≡ head))
+    IsOfWant fault ⊎ ((end : EndsAtLine first begun acts newer lines behind fault) × (newer ≡ [] → end.line ≡ head))
 
 -- the text, the first line of which was read, has the lines of newer acts, and they were done
 pub record AreLinesDone {S : Type 0} (g : Ghosts S) (first begun : ℤ) (acts : List Act) (head text : List ℕ) (lines : ℕ) (result : Result ℕ NotApplied) (books : Connected S) : Type 0 where
@@ -152,7 +152,7 @@ pub record AreLinesDone {S : Type 0} (g : Ghosts S) (first begun : ℤ) (acts : 
 -- how a text ends behind so many known lines: it has the lines of the newer acts, or one of its lines is not done
 abbrev pub IsBehindEnded : (first begun : ℤ) → (acts newer : List Act) → (lines : ℕ) → (behind : List ℕ) → Result Applied NotApplied → Type 0
 IsBehindEnded first begun acts newer lines behind (Ok told) = IsPart behind × (told ≡ record { done = length newer; known = lines; beyond = 0 })
-IsBehindEnded first begun acts newer lines behind (Err fault) = IsOfNoLine fault ⊎ EndsAtLine first begun acts newer lines behind fault
+IsBehindEnded first begun acts newer lines behind (Err fault) = IsOfWant fault ⊎ EndsAtLine first begun acts newer lines behind fault
 
 -- the text, which may have no line, has the lines of newer acts, and they were done
 pub record AreBehindDone {S : Type 0} (g : Ghosts S) (first begun : ℤ) (acts : List Act) (text : List ℕ) (lines : ℕ) (result : Result Applied NotApplied) (books : Connected S) : Type 0 where

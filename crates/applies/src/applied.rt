@@ -1,7 +1,7 @@
 //! How the lines of a history were done on books.
 
-use act_lines::ReadFault;
 use commands::Refusal;
+use histories::ReadFault;
 use std::alloc::AllocError;
 
 /// The lines of a text, of which all were done.
@@ -47,9 +47,9 @@ impl From<AllocError> for NotApplied {
 
 impl From<ReadFault> for NotApplied {
     ghost use Rattle.std.specs.Prelude.{◌≡◌};
-    ghost use Rattle.applies.specs.Going.{IsOfNoLine, unread};
+    ghost use Rattle.applies.specs.Going.{IsOfWant, unread};
 
-    ghost from_gives = { λ why fault. (fault ≡ unread why) × IsOfNoLine fault };
+    ghost from_gives = { λ why fault. (fault ≡ unread why) × IsOfWant fault };
 
     fn from(fault: ReadFault) -> NotApplied {
         match fault {

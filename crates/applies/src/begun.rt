@@ -1,26 +1,28 @@
 //! The day on which the acts of the books began.
 
-ghost use Rattle.std.specs.Prelude.{◌≡◌, ◌≢◌, ℤ, List, Some, None, IfOk, IfErr};
+ghost use Rattle.std.specs.Prelude.{◌≡◌, ◌≢◌, ℤ, List, Some, None, Err, IfOk, IfErr};
 ghost use Rattle.sqlite.specs.Held.{state};
 ghost use Rattle.sqlite.specs.State.{Survives};
-ghost use Rattle.spellings.specs.Starting.{day_before as day_before_lem};
-ghost use Rattle.spellings.specs.declared.start.Start.TheVariants.{Received};
+ghost use Rattle.texts.specs.Starting.{day_before as day_before_lem};
+ghost use Rattle.texts.specs.declared.start.Start.TheVariants.{Received};
 ghost use Rattle.machine.specs.Acts.{Act};
 ghost use Rattle.machine.specs.Once.{IsHistory};
 ghost use Rattle.histories.specs.Start.{start_of, IsStartBy};
 ghost use Rattle.store.specs.Books.{HoldsBooks, IsClean};
 ghost use Rattle.store.specs.Handing.{NoBooks};
 ghost use Rattle.applies.specs.Begun.{BegunOn, FitsLine, line_day, earlier_day as earlier_day_lem};
-ghost use Rattle.applies.specs.Going.{IsOfNoLine};
+ghost use Rattle.applies.specs.Going.{IsOfNoLine, IsOfRows, IsOfWant};
+ghost use Rattle.applies.specs.declared.applied.NotApplied.TheVariants.{Foreign};
+ghost use Rattle.histories.specs.declared.fault.HistoryFault.TheVariants.{Foreign as ForeignRow};
 
 use crate::applied::NotApplied;
 use crate::fields::cut;
 use histories::{CardDay, FirstStart, HistoryFault};
 use label::{BusinessDay, Day};
-use spellings::{Start, day_before};
 use sqlite::Alter;
 use std::alloc::Global;
 use store::{Books, EachFault};
+use texts::{Start, day_before};
 use values::LotId;
 
 /// What the first act tells that tells of the day, if there is one.
@@ -29,6 +31,7 @@ fn find_start<S: Alter>(alloc: Global, books: &mut Books<S>) -> Result<Option<St
     ensures found { IsClean S.Store books.new → (first : ℤ) (acts : List Act) → IsHistory first acts → HoldsBooks S.Store first acts books.old
         → HoldsBooks S.Store first acts books.new × IfOk result (λ found. found ≡ start_of acts) }
     ensures fault { IfErr result IsOfNoLine }
+    ensures foreign { IsClean S.Store books.new → (first : ℤ) (acts : List Act) → IsHistory first acts → HoldsBooks S.Store first acts books.old → IfErr result (IsOfRows S.Store books.new) }
     ensures survives { Survives (state S.Store books.old.conn) (state S.Store books.new.conn) (NoBooks (state S.Store books.old.conn)) }
 {
     let mut rows = FirstStart {
@@ -48,11 +51,12 @@ fn find_start<S: Alter>(alloc: Global, books: &mut Books<S>) -> Result<Option<St
 fn stopped_at(rows: &FirstStart) -> Result<Option<Start>, NotApplied>
     ensures found { IfOk result (λ found. (found ≡ rows.now.found) × (found ≢ None)) }
     ensures fault { IfErr result IsOfNoLine }
+    ensures foreign { result ≡ Err Foreign → (rows.now.found ≡ None) × (rows.now.fault ≡ ForeignRow) }
 {
     match (rows.found, rows.fault) {
         (Some(found), _) => Ok(Some(found)),
-        (None, HistoryFault::Store) => Err(NotApplied::Store),
-        (None, _) => Err(NotApplied::Foreign),
+        (None, HistoryFault::Foreign) => Err(NotApplied::Foreign),
+        (None, _) => Err(NotApplied::Store),
     }
 }
 
@@ -61,7 +65,7 @@ fn card_day<S: Alter>(books: &mut Books<S>, lot: LotId, act: u64) -> Result<Day,
     ensures clean { IsClean S.Store books.new → IsClean S.Store books.old }
     ensures day { IsClean S.Store books.new → (first : ℤ) (acts : List Act) → IsHistory first acts → HoldsBooks S.Store first acts books.old
         → HoldsBooks S.Store first acts books.new × IfOk result (IsStartBy first acts (Some (Received lot act))) }
-    ensures fault { IfErr result IsOfNoLine }
+    ensures fault { IfErr result IsOfWant }
     ensures survives { Survives (state S.Store books.old.conn) (state S.Store books.new.conn) (NoBooks (state S.Store books.old.conn)) }
 {
     let mut line = CardDay {
@@ -78,7 +82,7 @@ fn card_day<S: Alter>(books: &mut Books<S>, lot: LotId, act: u64) -> Result<Day,
 /// The day of the line at which the lines of the card came to an end.
 fn told_day(line: &CardDay) -> Result<Day, NotApplied>
     ensures day { IfOk result (λ day. line.now.day ≡ Some day) }
-    ensures fault { IfErr result IsOfNoLine }
+    ensures fault { IfErr result IsOfWant }
 {
     match line.day {
         Some(day) => Ok(day),
@@ -124,7 +128,7 @@ fn begun_by<S: Alter>(
         → HoldsBooks S.Store first acts books.new × IfOk result (BegunOn first acts) }
     ensures fits { IsClean S.Store books.new → (first : ℤ) (acts : List Act) → IsHistory first acts → HoldsBooks S.Store first acts books.old → found.now ≡ start_of acts
         → IfOk result (FitsLine first acts line.now) }
-    ensures fault { IfErr result IsOfNoLine }
+    ensures fault { IfErr result IsOfWant }
     ensures survives { Survives (state S.Store books.old.conn) (state S.Store books.new.conn) (NoBooks (state S.Store books.old.conn)) }
 {
     let Some(start) = *found else {
@@ -150,6 +154,7 @@ pub fn find_begun<S: Alter>(
     ensures fits { IsClean S.Store books.new → (first : ℤ) (acts : List Act) → IsHistory first acts → HoldsBooks S.Store first acts books.old
         → IfOk result (FitsLine first acts line.now) }
     ensures fault { IfErr result IsOfNoLine }
+    ensures foreign { IsClean S.Store books.new → (first : ℤ) (acts : List Act) → IsHistory first acts → HoldsBooks S.Store first acts books.old → IfErr result (IsOfRows S.Store books.new) }
     ensures survives { Survives (state S.Store books.old.conn) (state S.Store books.new.conn) (λ _. (first : ℤ) (acts : List Act) → IsHistory first acts → ¬ HoldsBooks S.Store first acts books.old) }
 {
     let found = find_start(alloc, books)?;

@@ -4,8 +4,8 @@ ghost use Rattle.std.specs.Prelude.{◌≡◌, option_map, take, drop, IfOk};
 ghost use Rattle.applies.specs.Fields.{cut_at_tab, key_and_spelling as key_and_spelling_lem, untabbed, Reads, ReadsFields};
 
 use commands::{Command, Key};
-use spellings::{parse, parse_key};
 use std::alloc::{AllocError, Global};
+use texts::{parse, parse_key};
 
 /// What stands before the first tab of a text, and behind it.
 pub(crate) fn cut(text: &[u8]) -> Option<(&[u8], &[u8])>

@@ -2,14 +2,14 @@
 
 ghost use Rattle.std.specs.Prelude.{◌≡◌, ◌⊎◌, Ok, length, IfOk, IfErr, OnSome};
 ghost use Rattle.std.specs.Io.KnownBytes.{Consumes, IsAtEnd};
-ghost use Rattle.act_lines.specs.Reading.{IsLine, IsPart};
-ghost use Rattle.act_lines.specs.declared.known.Place.TheVariants.{Before, Behind};
-ghost use Rattle.applies.specs.Going.{IsOfNoLine};
+ghost use Rattle.histories.specs.Reading.{IsLine, IsPart};
+ghost use Rattle.histories.specs.declared.known.Place.TheVariants.{Before, Behind};
+ghost use Rattle.applies.specs.Going.{IsOfWant};
 ghost use Rattle.applies.specs.declared.applied.NotApplied.TheVariants.{Line};
 
 use crate::applied::NotApplied;
 use crate::lines::next_line;
-use act_lines::Place;
+use histories::Place;
 use std::io::BufRead;
 
 /// Reads the first line: before it, or behind the text where it has none.
@@ -21,7 +21,7 @@ pub(crate) fn first_line<R: BufRead>(
     ensures whole { result ≡ Ok Before → IsLine line.new.items }
     ensures part { result ≡ Ok Behind → IsPart line.new.items × OnSome (R.remaining reader.old) (IsAtEnd (R.remaining reader.new)) }
     ensures place { IfOk result (λ place. (place ≡ Before) ⊎ (place ≡ Behind)) }
-    ensures long { IfErr result (λ fault. IsOfNoLine fault ⊎ ((fault ≡ Line 1) × IsPart line.new.items × (length line.new.items ≡ 8_192))) }
+    ensures long { IfErr result (λ fault. IsOfWant fault ⊎ ((fault ≡ Line 1) × IsPart line.new.items × (length line.new.items ≡ 8_192))) }
 {
     if next_line(reader, line, 0)? {
         Ok(Place::Before)

@@ -1,21 +1,22 @@
 //! The lines of the acts that the books have.
 
-ghost use Rattle.std.specs.Prelude.{◌≡◌, ◌-◌, ℕ, ℤ, List, Option};
+ghost use Rattle.std.specs.Prelude.{◌≡◌, ◌≢◌, ◌-◌, ℕ, ℤ, List, Option, Err, IfErr};
 ghost use Rattle.sqlite.specs.Held.{state};
 ghost use Rattle.sqlite.specs.State.{Survives};
 ghost use Rattle.machine.specs.Acts.{Act};
 ghost use Rattle.machine.specs.Once.{IsHistory};
 ghost use Rattle.store.specs.Books.{HoldsBooks, IsClean};
 ghost use Rattle.store.specs.Handing.{NoBooks};
-ghost use Rattle.act_lines.specs.Walked.{IsStart, HasPassed};
-ghost use Rattle.applies.specs.Going.{GoesOn, Leaves, OfText};
+ghost use Rattle.histories.specs.Walked.{IsStart, HasPassed};
+ghost use Rattle.applies.specs.Going.{GoesOn, IsOfRows, Leaves, OfText};
 ghost use Rattle.applies.specs.Known.{IsToldAs, ArePassed, counted as counted_lem};
 ghost use Rattle.applies.specs.Lines.{IsAt, AreBehindDone, LeavesLines};
+ghost use Rattle.applies.specs.declared.applied.NotApplied.TheVariants.{Foreign};
 
 use crate::applied::{Applied, NotApplied};
 use crate::lines::{do_lines, next_line};
 use crate::next::At;
-use act_lines::{KnownLines, LineFault, Place};
+use histories::{KnownLines, LineFault, Place};
 use sqlite::Alter;
 use std::alloc::Global;
 use std::io::BufRead;
@@ -45,6 +46,8 @@ fn pass_known<S: Alter, R: BufRead + Drop>(
     ensures clean { IsClean S.Store books.new → IsClean S.Store books.old }
     ensures passed { IsClean S.Store books.new → (first begun : ℤ) (acts : List Act) → IsHistory first acts → HoldsBooks S.Store first acts books.old
         → HoldsBooks S.Store first acts books.new × ((left : Option (List ℕ)) → IsStart R.remaining left lines.old → lines.old.day ≡ begun → ArePassed R.remaining left begun acts result lines.new) }
+    ensures foreign { IsClean S.Store books.new → (first : ℤ) (acts : List Act) → IsHistory first acts → HoldsBooks S.Store first acts books.old → lines.old.done ≡ 0
+        → IfErr result (IsOfRows S.Store books.new) }
     ensures survives { Survives (state S.Store books.old.conn) (state S.Store books.new.conn) (NoBooks (state S.Store books.old.conn)) }
 {
     match books.each_act(lines) {
@@ -108,6 +111,8 @@ fn go_on<S: Alter, R: BufRead + Drop>(
     ensures clean { IsClean S.Store books.new → IsClean S.Store books.old }
     ensures applied { IsClean S.Store books.new → (left : Option (List ℕ)) (first begun : ℤ) (acts : List Act) → IsHistory first acts → HoldsBooks S.Store first acts books.old
         → HasPassed R.remaining left begun lines acts → OfText left (λ text. GoesOn S.Store first begun acts text result books.new) }
+    ensures own { IsClean S.Store books.new → (left : Option (List ℕ)) (first begun : ℤ) (acts : List Act) → IsHistory first acts → HoldsBooks S.Store first acts books.old
+        → HasPassed R.remaining left begun lines acts → result ≢ Err Foreign }
     ensures survives { Survives (state S.Store books.old.conn) (state S.Store books.new.conn) (λ trees. (left : Option (List ℕ)) (first begun : ℤ) (acts : List Act) → IsHistory first acts → HoldsBooks S.Store first acts books.old
         → HasPassed R.remaining left begun lines acts → OfText left (λ text. Leaves first begun acts text trees)) }
 {
@@ -159,6 +164,8 @@ pub(crate) fn apply_lines<S: Alter, R: BufRead + Drop>(
     ensures clean { IsClean S.Store books.new → IsClean S.Store books.old }
     ensures applied { IsClean S.Store books.new → (left : Option (List ℕ)) (first begun : ℤ) (acts : List Act) → IsHistory first acts → HoldsBooks S.Store first acts books.old
         → IsStart R.remaining left lines → lines.day ≡ begun → OfText left (λ text. GoesOn S.Store first begun acts text result books.new) }
+    ensures foreign { IsClean S.Store books.new → (left : Option (List ℕ)) (first : ℤ) (acts : List Act) → IsHistory first acts → HoldsBooks S.Store first acts books.old
+        → IsStart R.remaining left lines → IfErr result (IsOfRows S.Store books.new) }
     ensures survives { Survives (state S.Store books.old.conn) (state S.Store books.new.conn) (λ trees. (left : Option (List ℕ)) (first begun : ℤ) (acts : List Act) → IsHistory first acts → HoldsBooks S.Store first acts books.old
         → IsStart R.remaining left lines → lines.day ≡ begun → OfText left (λ text. Leaves first begun acts text trees)) }
 {

@@ -6,14 +6,14 @@ ghost use Rattle.sqlite.specs.Held.{state};
 ghost use Rattle.sqlite.specs.State.{Survives};
 ghost use Rattle.machine.specs.Acts.{Act};
 ghost use Rattle.store.specs.Books.{IsClean};
-ghost use Rattle.act_lines.specs.Reading.{IsLine, IsPart};
-ghost use Rattle.applies.specs.Going.{IsOfNoLine, OfText};
+ghost use Rattle.histories.specs.Reading.{IsLine, IsPart};
+ghost use Rattle.applies.specs.Going.{IsOfWant, OfText};
 ghost use Rattle.applies.specs.Lines.{Stands, AreLinesDone, LeavesLines};
 ghost use Rattle.applies.specs.declared.applied.NotApplied.TheVariants.{Line};
 
 use crate::applied::NotApplied;
 use crate::next::{At, do_line};
-use act_lines::{Ended, read_line};
+use histories::{Ended, read_line};
 use sqlite::Alter;
 use std::alloc::Global;
 use std::io::BufRead;
@@ -28,7 +28,7 @@ pub(crate) fn next_line<R: BufRead>(
     ensures bytes { Consumes (R.remaining reader.old) (R.remaining reader.new) line.new.items }
     ensures whole { result ≡ Ok true → IsLine line.new.items }
     ensures part { result ≡ Ok false → IsPart line.new.items × OnSome (R.remaining reader.old) (IsAtEnd (R.remaining reader.new)) }
-    ensures long { IfErr result (λ fault. IsOfNoLine fault ⊎ ((fault ≡ Line (lines + 1)) × IsPart line.new.items × (length line.new.items ≡ 8_192))) }
+    ensures long { IfErr result (λ fault. IsOfWant fault ⊎ ((fault ≡ Line (lines + 1)) × IsPart line.new.items × (length line.new.items ≡ 8_192))) }
 {
     match read_line(reader, line)? {
         Ended::Whole => Ok(true),
@@ -39,7 +39,7 @@ pub(crate) fn next_line<R: BufRead>(
 
 /// The line behind so many is too long.
 fn long_line(lines: u64) -> NotApplied
-    ensures { IsOfNoLine result ⊎ (result ≡ Line (lines + 1)) }
+    ensures { IsOfWant result ⊎ (result ≡ Line (lines + 1)) }
 {
     match lines.checked_add(1) {
         Some(line) => NotApplied::Line { line },

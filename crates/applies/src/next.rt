@@ -11,10 +11,9 @@ ghost use Rattle.applies.specs.Lines.{BearsLater, IsPlaced, IsNext, IsNextRead, 
 
 use crate::applied::NotApplied;
 use crate::fields::{cut, read_act};
-use act_lines::{is_line_of, is_numbered};
 use commands::laws::{every_command_is_sound, every_key_is_sound};
 use commands::{Command, Key};
-use histories::day_then;
+use histories::{day_then, is_line_of, is_numbered};
 use label::Day;
 use replays::{NotReplayed, act_again};
 use sqlite::Alter;

@@ -1,21 +1,5 @@
 -- The day that the acts began on, as it is read.
-use Rattle.std.proofs.Common.{◌≡◌, ℕ, List, Option, Some, None, find, true, refl, sym, ap, ◌∙◌}
-use Rattle.std.specs.Prelude.{ℤ, option_map}
-use Rattle.std.proofs.lemmas.Option.{none-some}
-use Rattle.sqlite.specs.State.{State}
-use Rattle.values.specs.declared.lot.LotId.{LotId}
-use Rattle.commands.specs.declared.rows.MetaRow.{MetaRow}
-use Rattle.commands.specs.declared.rows.CardRow.{CardRow}
-use Rattle.table_words.specs.Typed.{tables_in, same_card, card_key}
-use Rattle.goods_tables.specs.Meta.{meta}
-use Rattle.history_tables.specs.Cards.{cards}
-use Rattle.whole_tables.specs.Whole.{AreAll}
-use Rattle.same_rows.specs.declared.key.RowKey.{RowKey}
-use Rattle.same_rows.specs.declared.key.RowKey.TheVariants.{Meta, Card}
-use Rattle.spellings.specs.declared.start.Start.{Start}
-use Rattle.spellings.specs.declared.start.Start.TheVariants.{Received}
-use Rattle.histories.specs.Start.{first_day}
-use Rattle.audits.specs.Beginning.{IsUntold, day_or_missing, IsBegun}
+use Rattle.audits.proofs.Words.{◌≡◌, ℕ, List, Option, Some, None, find, true, refl, sym, ap, ◌∙◌, ℤ, option_map, none-some, State, LotId, MetaRow, CardRow, tables_in, same_card, card_key, meta, cards, AreAll, RowKey, Meta, Card, Start, Received, first_day, IsUntold, day_or_missing, IsBegun}
 
 none_mapped : {X Y : Type 0} (f : X → Y) (x : Option X) → option_map f x ≡ None → x ≡ None
 none_mapped f None e = refl

@@ -1,45 +1,8 @@
 -- What follows of what was compared.
-use Rattle.std.proofs.Common.{◌≡◌, ◌≢◌, ℕ, List, [], ◌∷◌, ◌++◌, take, drop, length, find, Option, Some, None, Result, Ok, Err, IfOk, inl, inr, refl, sym, ap, subst, ◌∙◌, arith}
-use Rattle.std.specs.Prelude.{◌⊎◌, ℤ, reverse, option_map, IfErr}
-use Rattle.std.proofs.lemmas.Option.{same_Some, none-some}
-use Rattle.std.proofs.lemmas.List.{length-reverse, reverse-reverse}
-use Rattle.std.proofs.Math.Seq.{take-append_seam}
-use Rattle.sqlite.specs.State.{State}
-use Rattle.sqlite.specs.Tree.{Trees}
-use Rattle.values.specs.Values.{same_text}
-use Rattle.commands.specs.declared.refusal.Refusal.{Refusal}
-use Rattle.commands.specs.declared.rows.MetaRow.{MetaRow}
-use Rattle.commands.specs.declared.rows.CardRow.{CardRow}
-use Rattle.commands.specs.declared.rows.RepeatRow.{RepeatRow}
-use Rattle.table_words.specs.Typed.{tables_in, Keeps, same_repeat, repeat_key}
-use Rattle.table_words.proofs.CallLemmas.{if_err}
-use Rattle.machine.specs.Acts.{Act}
-use Rattle.machine.specs.Once.{IsHistory}
-use Rattle.machine.specs.Tables.{Tables, tables_of, repeat_row}
-use Rattle.slices.specs.Books.{AreRowsOf, IsBooksOf}
-use Rattle.same_rows.specs.declared.key.RowKey.{RowKey}
-use Rattle.same_rows.specs.declared.key.TableName.{TableName}
-use Rattle.same_rows.specs.Differing.{RowDiffers, rule_called}
-use Rattle.same_rows.specs.Same.{FindAlike}
-use Rattle.spellings.specs.declared.start.Start.{Start}
-use Rattle.spellings.specs.declared.start.Start.TheVariants.{Received, Opened}
-use Rattle.histories.specs.Start.{start_of, first_day}
-use Rattle.replays.specs.Replaying.{Spell, BreakUnspelled, BreakRefused}
-use Rattle.replays.specs.Spelled.{AreNewestFirst, AreRepeats, IsUnnumbered}
-use Rattle.replays.specs.Starting.{Tell, TellFirst}
-use Rattle.replays.proofs.RowSteps.{none_unspelled, none_refused}
-use Rattle.replays.proofs.Spelled.{one_order, spelled, no_other, none_spelled}
-use Rattle.replays.proofs.FirstDay.{first_day_told}
-use Rattle.replays.proofs.EarlierDays.{told_day_stands}
-use Rattle.store.specs.declared.fault.Fault.{Fault}
+use Rattle.audits.proofs.Words.{◌≡◌, ◌≢◌, ℕ, List, [], ◌∷◌, ◌++◌, take, drop, length, find, Option, Some, None, Result, Ok, Err, IfOk, inl, inr, refl, sym, ap, subst, ◌∙◌, arith, ◌⊎◌, ℤ, reverse, option_map, IfErr, same_Some, none-some, length-reverse, reverse-reverse, take-append_seam, State, Trees, same_text, Refusal, MetaRow, CardRow, RepeatRow, tables_in, Keeps, same_repeat, repeat_key, if_err, Act, IsHistory, Tables, tables_of, repeat_row, AreRowsOf, IsBooksOf, RowKey, TableName, RowDiffers, rule_called, FindAlike, Start, Received, Opened, start_of, first_day, Spell, BreakUnspelled, BreakRefused, AreNewestFirst, AreRepeats, IsUnnumbered, Tell, TellFirst, none_unspelled, none_refused, one_order, spelled, no_other, none_spelled, first_day_told, told_day_stands, Fault, Unread, Finding, Sound, Differs, Unnumbered, Unspelled, Refused, SameTables, AreSeen, Tells, IsUnread, IsUntold, IsHeld, AreOfNone, IsBegunOn, AreBroken, SaysIn, told_unread}
 use Rattle.store.specs.declared.fault.Fault.TheVariants.{Store, Foreign}
-use Rattle.audits.specs.declared.finding.Unread.{Unread}
 use Rattle.audits.specs.declared.finding.Unread.TheVariants as unread
-use Rattle.audits.specs.declared.finding.Finding.{Finding}
-use Rattle.audits.specs.declared.finding.Finding.TheVariants.{Sound, Differs, Untyped, Unnumbered, Unspelled, Refused}
-use Rattle.audits.specs.Comparing.{SameTables, AreSeen, Tells, IsUnread}
-use Rattle.audits.specs.Beginning.{IsUntold}
-use Rattle.audits.specs.Auditing.{IsHeld, AreOfNone, IsBegunOn, AreBroken, SaysIn, told_unread}
+use Rattle.audits.specs.declared.finding.Finding.TheVariants.{Untyped}
 use Rattle.audits.proofs.Tables.{same_tables, typed_tables, keeps_called, two_tables}
 
 -- ---- tables compared with those of books of the acts

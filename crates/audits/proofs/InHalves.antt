@@ -1,26 +1,5 @@
 -- A table by its halves.
-use Rattle.std.proofs.Common.{◌≡◌, ℤ, ◌++◌, Vec, Global, Bool, true, Option, None, Result, Ok, Err, IfErr, OnOk, ◌≢◌, find, refl, sym, ap, ap₂, subst, ◌∙◌}
-use Rattle.sqlite.specs.Effect.{Database}
-use Rattle.sqlite.specs.State.{State, IsUnchanged}
-use Rattle.sqlite_keyed.proofs.ListLemmas.{all-filter}
-use Rattle.table_words.specs.Cells.{typed}
-use Rattle.table_words.specs.Steps.{IsReady}
-use Rattle.table_words.specs.Typed.{tables_in, Keeps}
-use Rattle.table_words.specs.declared.error.TableFault.{TableFault}
-use Rattle.table_words.specs.declared.error.TableFault.TheVariants.{Foreign}
-use Rattle.table_words.proofs.CallLemmas.{inside_itself, inside_then}
-use Rattle.keyed_rows.specs.Described.{Described, IsLawful}
-use Rattle.whole_tables.specs.declared.halves.Half.{Half}
-use Rattle.whole_tables.specs.declared.halves.Half.TheVariants.{Lower, Upper}
-use Rattle.whole_tables.specs.Halves.{FindsHalf, is_in}
-use Rattle.whole_tables.proofs.Halving.{halves_typed, halves_read}
-use Rattle.same_rows.specs.declared.key.RowKey.{RowKey}
-use Rattle.same_rows.specs.declared.key.TableName.{TableName}
-use Rattle.same_rows.specs.Differing.{rule_called}
-use Rattle.audits.specs.declared.finding.Unread.{Unread}
-use Rattle.audits.specs.declared.finding.Unread.TheVariants.{Untyped, Store}
-use Rattle.audits.specs.Comparing.{Both, SameTable, IsUnread, AreSeen, Tells}
-use Rattle.audits.specs.Halves.{SameHalf, TellsAlike}
+use Rattle.audits.proofs.Words.{◌≡◌, ℤ, ◌++◌, Vec, Global, Bool, true, Option, None, Result, Ok, Err, IfErr, OnOk, ◌≢◌, find, refl, sym, ap, ap₂, subst, ◌∙◌, Database, State, IsUnchanged, all-filter, typed, IsReady, tables_in, Keeps, TableFault, Foreign, inside_itself, inside_then, Described, IsLawful, Half, Lower, Upper, FindsHalf, is_in, halves_typed, halves_read, RowKey, TableName, rule_called, SameTable, SameCalled, Unread, Untyped, Store, Both, IsUnread, AreSeen, Tells, SameHalf, TellsAlike}
 use Rattle.audits.proofs.Telling.{earlier, unchanged_then, tells_both}
 
 -- ---- one half
@@ -70,12 +49,12 @@ pub unread_told : (P Q : Database → Database → Type 0) (o m b c : State) (e 
 unread_told P Q o m b c e h = record { same = λ seen is. cc; differs = λ seen. tt; unread = h.unread; survives = h.survives; survives_too = h.survives_too }
 
 pub alike_told : (P : Database → Database → Type 0) (o m b c : State) → TellsAlike P o m b c (Ok true) → Tells P o m b c (Ok None)
-alike_told P o m b c h = record { same = λ seen is. (h.alike seen refl, (h.same seen).0, (h.same seen).1); differs = λ seen. tt; unread = λ seen. tt; survives = h.survives; survives_too = h.survives_too }
+alike_told P o m b c h = record { same = λ seen is. (h.alike seen refl, (h.same seen).0.0.now_is, (h.same seen).1.0.now_is); differs = λ seen. tt; unread = λ seen. tt; survives = h.survives; survives_too = h.survives_too }
 
 module _ (P : Database → Database → Type 0) (o m b c : State) (are : Bool) (one : TellsAlike P o m b c (Ok are)) where
   -- nothing was told, and nothing changed
   as_told : Tells (λ x y. Unit {0}) o m b c (Ok None)
-  as_told = record { same = λ seen e. (tt, (one.same seen).0, (one.same seen).1); differs = λ seen. tt; unread = λ seen. tt; survives = one.survives; survives_too = one.survives_too }
+  as_told = record { same = λ seen e. (tt, (one.same seen).0.0.now_is, (one.same seen).1.0.now_is); differs = λ seen. tt; unread = λ seen. tt; survives = one.survives; survives_too = one.survives_too }
 
   pub then_told : (Q : Database → Database → Type 0) (n d : State) (r : Result (Option RowKey) Unread) → Tells Q m n c d r → Tells Q o n b d r
   then_told Q n d r two =
@@ -101,17 +80,17 @@ module _ (P : Database → Database → Type 0) (o m b c : State) (are : Bool) (
 
 -- ---- both halves
 
-module _ {X K : Type 0} (d : Described X K) (laws : IsLawful d) (middle : ℤ) where
+module _ {X K : Type 0} (d : Described X K) (laws : IsLawful d) (name : TableName) (called : (a b : Database) → SameTable d a b → SameCalled name a b) (middle : ℤ) where
   same_look : (a b : Database) → IsReady a → IsReady b → SameHalf d Lower middle a b → SameHalf d Upper middle a b → (k : K) → d.look (tables_in a.trees) k ≡ d.look (tables_in b.trees) k
   same_look a b ready ready_too low high k =
       let all : typed d.is d.reads (a.trees d.layout.tree) ≡ typed d.is d.reads (b.trees d.layout.tree) = halves_read d laws middle a ready ∙ ap₂ ◌++◌ low.same high.same ∙ sym (halves_read d laws middle b ready_too) in
       (λ i. laws.looks a.trees i k) ∙ ap (find (λ s. d.same k (d.key s))) all ∙ (λ i. sym (laws.looks b.trees) i k)
 
-  pub halves_alike : (o m b c : State) (r : Result Bool Unread) → TellsAlike (Both (SameHalf d Lower middle) (SameHalf d Upper middle)) o m b c r → TellsAlike (SameTable d) o m b c r
+  pub halves_alike : (o m b c : State) (r : Result Bool Unread) → TellsAlike (Both (SameHalf d Lower middle) (SameHalf d Upper middle)) o m b c r → TellsAlike (SameCalled name) o m b c r
   halves_alike o m b c r h = record {
     alike = λ seen e.
         let both = h.alike seen e in
-        record { same = same_look o.now b.now seen.ready seen.ready_too both.0 both.1; typed = halves_typed d laws middle o.now seen.ready both.0.typed_rows both.1.typed_rows };
+        called o.now b.now (record { same = same_look o.now b.now seen.ready seen.ready_too both.0 both.1; typed = halves_typed d laws middle o.now seen.ready both.0.typed_rows both.1.typed_rows });
     same = h.same;
     unread = h.unread;
     survives = h.survives;

@@ -1,3 +1,4 @@
+mod Words
 pub mod Telling
 pub mod InHalves
 pub mod Tables

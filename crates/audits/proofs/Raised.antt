@@ -1,35 +1,7 @@
 -- What older tables come to.
-use Rattle.std.proofs.Common.{◌≡◌, ◌≢◌, ℕ, true, refl, List, Some, None, Option, Result, inl, inr, sym, ap, subst, ◌∙◌}
-use Rattle.std.specs.Prelude.{◌↔◌, ℤ, IfOk, IfErr, Ok}
-use Rattle.sqlite_trees.specs.declared.store.Store.{Ghosts}
-use Rattle.sqlite.specs.Effect.{Database}
-use Rattle.sqlite.specs.Held.{Held, state}
-use Rattle.sqlite.specs.State.{State, IsUnchanged}
-use Rattle.sqlite.specs.Tree.{Trees}
-use Rattle.commands.specs.declared.rows.MetaRow.{MetaRow}
-use Rattle.table_words.specs.Steps.{IsReady, Goes}
-use Rattle.table_words.specs.Typed.{tables_in, meta_at, with_meta, AreTyped, AreTypedAt}
-use Rattle.table_words.specs.declared.error.TableFault.{TableFault}
-use Rattle.table_words.specs.declared.error.TableFault.TheVariants.{Foreign}
-use Rattle.table_words.proofs.CallLemmas.{if_err}
-use Rattle.books_schema.specs.Bringing.{IsFilled}
-use Rattle.books_schema.specs.Settling.{HasRow, HasDayAt, IsRaised}
-use Rattle.books_schema.specs.declared.older.OlderBooks.{OlderBooks}
-use Rattle.books_schema.specs.declared.ready_connection.Found.{Found}
-use Rattle.books_schema.specs.declared.ready_connection.Found.TheVariants.{Newest, Older}
-use Rattle.books_schema.specs.Opening.{IsReadyAs, ComesTo}
-use Rattle.books_schema.proofs.BringLemmas.{begins_older}
-use Rattle.books_schema.proofs.SettleLemmas.{day_of_row}
-use Rattle.machine.specs.Acts.{Act}
-use Rattle.machine.specs.Standing.{today}
+use Rattle.audits.proofs.Words.{◌≡◌, ◌≢◌, ℕ, true, refl, List, Some, None, Option, Result, inl, inr, sym, ap, subst, ◌∙◌, ◌↔◌, ℤ, IfOk, IfErr, Ok, Ghosts, Database, Held, state, State, IsUnchanged, Trees, MetaRow, IsReady, Goes, tables_in, meta_at, with_meta, AreTyped, AreTypedAt, TableFault, Foreign, if_err, IsFilled, HasRow, HasDayAt, IsRaised, OlderBooks, Found, Newest, Older, IsReadyAs, ComesTo, begins_older, day_of_row, Act, today, AreRowsAt, Fault, third_day, has_day, read_typed, rows_come, rows_came, Finding, Sound, Differs, Unnumbered, Unspelled, Refused, IsBegunOver, AreShown, CannotBeRaised, AreOfNone, Says, SaysIn, IsFound, IsFinding, AreSoundBooks}
 use Rattle.store.specs.Books.{AreRowsOf}
-use Rattle.store.specs.Opening.{AreRowsAt}
-use Rattle.store.specs.declared.fault.Fault.{Fault}
-use Rattle.store.proofs.OpenedBooks.{third_day, has_day, read_typed, rows_come, rows_came}
-use Rattle.audits.specs.declared.finding.Finding.{Finding}
-use Rattle.audits.specs.declared.finding.Finding.TheVariants.{Sound, Differs, Untyped, Unnumbered, Unspelled, Refused}
-use Rattle.audits.specs.Raising.{IsBegunOver, AreShown, CannotBeRaised}
-use Rattle.audits.specs.Auditing.{AreOfNone, Says, SaysIn, IsFound, IsFinding, AreSoundBooks}
+use Rattle.audits.specs.declared.finding.Finding.TheVariants.{Untyped}
 
 -- books that are not of schema 3 stay
 pub shown_still : (old new : State) → IsReady old.now → IsUnchanged old new → ((day : ℤ) → ¬ HasDayAt 3 old.now.trees day) → AreShown Newest old.now.trees new

@@ -16,9 +16,9 @@ use Rattle.machine.specs.Once.{IsHistory}
 use Rattle.machine.specs.Tables.{Tables, tables_of, repeat_row}
 use Rattle.slices.specs.Books.{AreRowsOf, IsBooksOf}
 use Rattle.store.specs.Opening.{AreRowsAt}
-use Rattle.same_rows.specs.declared.key.RowKey.{RowKey}
-use Rattle.same_rows.specs.Differing.{RowDiffers, rule_called}
-use Rattle.spellings.specs.declared.start.Start.{Start}
+use Rattle.whole_tables.specs.declared.key.RowKey.{RowKey}
+use Rattle.whole_tables.specs.Differing.{RowDiffers, rule_called}
+use Rattle.texts.specs.declared.start.Start.{Start}
 use Rattle.histories.specs.Start.{first_day, start_of}
 use Rattle.replays.specs.Replaying.{Spell, BreakUnspelled, BreakRefused}
 use Rattle.replays.specs.Spelled.{AreRepeats, IsUnnumbered}

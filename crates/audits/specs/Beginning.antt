@@ -2,11 +2,11 @@
 use Rattle.std.specs.Prelude.{◌≡◌, Option, Some, None, ℤ}
 use Rattle.sqlite.specs.State.{State}
 use Rattle.table_words.specs.Typed.{Tables, tables_in, Keeps}
-use Rattle.same_rows.specs.declared.key.RowKey.{RowKey}
-use Rattle.same_rows.specs.declared.key.RowKey.TheVariants.{Meta, Card}
-use Rattle.same_rows.specs.Differing.{rule_called}
-use Rattle.spellings.specs.declared.start.Start.{Start}
-use Rattle.spellings.specs.declared.start.Start.TheVariants.{Received, Opened}
+use Rattle.whole_tables.specs.declared.key.RowKey.{RowKey}
+use Rattle.whole_tables.specs.declared.key.RowKey.TheVariants.{Meta, Card}
+use Rattle.whole_tables.specs.Differing.{rule_called}
+use Rattle.texts.specs.declared.start.Start.{Start}
+use Rattle.texts.specs.declared.start.Start.TheVariants.{Received, Opened}
 use Rattle.histories.specs.Start.{first_day}
 use Rattle.audits.specs.declared.first_day.Begun.{Begun}
 use Rattle.audits.specs.declared.first_day.Begun.TheVariants.{On, Missing, Untyped}

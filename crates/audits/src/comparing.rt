@@ -2,88 +2,105 @@
 
 ghost use Rattle.std.specs.Prelude.{◌≡◌};
 ghost use Rattle.sqlite.specs.Held.{state};
-ghost use Rattle.audits.specs.Comparing.{Tells, TellsNext, SameGoods, SameOrders, SameHistory, SameTables};
+ghost use Rattle.whole_tables.specs.Differing.{SameCalled};
+ghost use Rattle.audits.specs.Comparing.{Tells, SameEach, SameTables};
 
-use crate::halves::next_halves;
-use crate::one_table::{Told, compare, next};
-use goods_tables::bins::Bins;
-use goods_tables::items::Items;
-use goods_tables::least::Least;
-use goods_tables::lots::Lots;
-use goods_tables::meta::Meta;
-use goods_tables::recalls::Recalls;
-use goods_tables::stock::Stock;
-use history_tables::cards::Cards;
-use history_tables::repeats::Repeats;
-use history_tables::shiplines::Shiplines;
-use history_tables::shipments::Shipments;
-use order_tables::lines::Lines;
-use order_tables::orders::Orders;
-use order_tables::reserved::Reserved;
-use order_tables::staged::Staged;
-use order_tables::urgents::Urgents;
+use crate::halves::compare_halves;
+use crate::one_table::{Told, compare};
 use sqlite::{Alter, Transaction};
 use std::alloc::Global;
+use tables::bins::Bins;
+use tables::cards::Cards;
+use tables::items::Items;
+use tables::least::Least;
+use tables::lines::Lines;
+use tables::lots::Lots;
+use tables::meta::Meta;
+use tables::orders::Orders;
+use tables::recalls::Recalls;
+use tables::repeats::Repeats;
+use tables::reserved::Reserved;
+use tables::shiplines::Shiplines;
+use tables::shipments::Shipments;
+use tables::staged::Staged;
+use tables::stock::Stock;
+use tables::urgents::Urgents;
+use whole_tables::TableName;
 
-/// The tables of the goods.
-fn compare_goods<S: Alter, M: Alter>(
+/// The tables, in the order in which they are compared.
+pub const COMPARED: [TableName; 16] = [
+    TableName::Meta,
+    TableName::Items,
+    TableName::Bins,
+    TableName::Lots,
+    TableName::Recalls,
+    TableName::Stock,
+    TableName::Orders,
+    TableName::Lines,
+    TableName::Staged,
+    TableName::Reserved,
+    TableName::Shipments,
+    TableName::Shiplines,
+    TableName::Cards,
+    TableName::Repeats,
+    TableName::Least,
+    TableName::Urgents,
+];
+
+/// The first row of this table that the two have not alike. Tables that grow with the acts are halved about the rowid `middle`.
+fn compare_table<S: Alter, M: Alter>(
     alloc: Global,
     books: &mut Transaction<'_, S>,
     replayed: &mut Transaction<'_, M>,
     middle: &i64,
+    table: TableName,
 ) -> Told
     ensures same_reference { books.new.conn.ghost_name ≡ books.old.conn.ghost_name }
     ensures same_reference_too { replayed.new.conn.ghost_name ≡ replayed.old.conn.ghost_name }
-    ensures tells { Tells SameGoods (state S.Store books.old.conn.now) (state S.Store books.new.conn.now) (state M.Store replayed.old.conn.now) (state M.Store replayed.new.conn.now) result }
+    ensures tells { Tells (SameCalled table) (state S.Store books.old.conn.now) (state S.Store books.new.conn.now) (state M.Store replayed.old.conn.now) (state M.Store replayed.new.conn.now) result }
 {
-    let meta = compare::<Meta, S, M>(alloc, books, replayed);
-    let items = next::<Items, S, M>(alloc, books, replayed, meta);
-    let bins = next::<Bins, S, M>(alloc, books, replayed, items);
-    let lots = next::<Lots, S, M>(alloc, books, replayed, bins);
-    let recalls = next::<Recalls, S, M>(alloc, books, replayed, lots);
-    next_halves::<Stock, S, M>(alloc, books, replayed, middle, recalls)
+    match table {
+        TableName::Meta => compare::<Meta, S, M>(alloc, books, replayed),
+        TableName::Items => compare::<Items, S, M>(alloc, books, replayed),
+        TableName::Bins => compare::<Bins, S, M>(alloc, books, replayed),
+        TableName::Lots => compare::<Lots, S, M>(alloc, books, replayed),
+        TableName::Recalls => compare::<Recalls, S, M>(alloc, books, replayed),
+        TableName::Stock => compare_halves::<Stock, S, M>(alloc, books, replayed, middle),
+        TableName::Orders => compare::<Orders, S, M>(alloc, books, replayed),
+        TableName::Lines => compare_halves::<Lines, S, M>(alloc, books, replayed, middle),
+        TableName::Staged => compare::<Staged, S, M>(alloc, books, replayed),
+        TableName::Reserved => compare_halves::<Reserved, S, M>(alloc, books, replayed, middle),
+        TableName::Shipments => compare::<Shipments, S, M>(alloc, books, replayed),
+        TableName::Shiplines => compare_halves::<Shiplines, S, M>(alloc, books, replayed, middle),
+        TableName::Cards => compare_halves::<Cards, S, M>(alloc, books, replayed, middle),
+        TableName::Repeats => compare_halves::<Repeats, S, M>(alloc, books, replayed, middle),
+        TableName::Least => compare::<Least, S, M>(alloc, books, replayed),
+        TableName::Urgents => compare::<Urgents, S, M>(alloc, books, replayed),
+    }
 }
 
-/// And those of the orders.
-fn compare_orders<S: Alter, M: Alter>(
+/// The first row of any of these tables, in their order.
+fn compare_each<S: Alter, M: Alter>(
     alloc: Global,
     books: &mut Transaction<'_, S>,
     replayed: &mut Transaction<'_, M>,
     middle: &i64,
-    so_far: Told,
+    tables: &[TableName],
 ) -> Told
     ensures same_reference { books.new.conn.ghost_name ≡ books.old.conn.ghost_name }
     ensures same_reference_too { replayed.new.conn.ghost_name ≡ replayed.old.conn.ghost_name }
-    ensures tells { TellsNext S.Store M.Store SameOrders so_far books.old.conn.now books.new.conn.now replayed.old.conn.now replayed.new.conn.now result }
+    ensures tells { Tells (SameEach tables.now) (state S.Store books.old.conn.now) (state S.Store books.new.conn.now) (state M.Store replayed.old.conn.now) (state M.Store replayed.new.conn.now) result }
 {
-    let orders = next::<Orders, S, M>(alloc, books, replayed, so_far);
-    let lines = next_halves::<Lines, S, M>(alloc, books, replayed, middle, orders);
-    let staged = next::<Staged, S, M>(alloc, books, replayed, lines);
-    next_halves::<Reserved, S, M>(alloc, books, replayed, middle, staged)
+    for table in tables {
+        match compare_table(alloc, books, replayed, middle, *table) {
+            Ok(None) => {}
+            other => return other,
+        }
+    }
+    Ok(None)
 }
 
-/// And those of what was shipped and done.
-fn compare_history<S: Alter, M: Alter>(
-    alloc: Global,
-    books: &mut Transaction<'_, S>,
-    replayed: &mut Transaction<'_, M>,
-    middle: &i64,
-    so_far: Told,
-) -> Told
-    ensures same_reference { books.new.conn.ghost_name ≡ books.old.conn.ghost_name }
-    ensures same_reference_too { replayed.new.conn.ghost_name ≡ replayed.old.conn.ghost_name }
-    ensures tells { TellsNext S.Store M.Store SameHistory so_far books.old.conn.now books.new.conn.now replayed.old.conn.now replayed.new.conn.now result }
-{
-    let shipments = next::<Shipments, S, M>(alloc, books, replayed, so_far);
-    let shiplines = next_halves::<Shiplines, S, M>(alloc, books, replayed, middle, shipments);
-    let cards = next_halves::<Cards, S, M>(alloc, books, replayed, middle, shiplines);
-    let repeats = next_halves::<Repeats, S, M>(alloc, books, replayed, middle, cards);
-    let least = next::<Least, S, M>(alloc, books, replayed, repeats);
-    next::<Urgents, S, M>(alloc, books, replayed, least)
-}
-
-/// The first row of any table that the two have not alike, in the order of the tables and of their keys. Tables that grow with
-/// the acts are halved about the rowid `middle`.
+/// The first row of any table that the two have not alike, in the order of the tables and of their keys.
 pub(crate) fn compare_tables<S: Alter, M: Alter>(
     alloc: Global,
     books: &mut Transaction<'_, S>,
@@ -94,7 +111,5 @@ pub(crate) fn compare_tables<S: Alter, M: Alter>(
     ensures same_reference_too { replayed.new.conn.ghost_name ≡ replayed.old.conn.ghost_name }
     ensures tells { Tells SameTables (state S.Store books.old.conn.now) (state S.Store books.new.conn.now) (state M.Store replayed.old.conn.now) (state M.Store replayed.new.conn.now) result }
 {
-    let goods = compare_goods(alloc, books, replayed, middle);
-    let orders = compare_orders(alloc, books, replayed, middle, goods);
-    compare_history(alloc, books, replayed, middle, orders)
+    compare_each(alloc, books, replayed, middle, &COMPARED)
 }

@@ -1,8 +1,8 @@
 use commands::Refusal;
 use commands::limits::KEY_TEXT_MAX;
 use label::BusinessDay;
-use same_rows::{RowKey, TableName};
 use values::Text;
+use whole_tables::{RowKey, TableName};
 
 /// What was found of books.
 #[derive(Clone, Copy, PartialEq, Eq, Debug)]

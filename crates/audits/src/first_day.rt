@@ -5,23 +5,22 @@ ghost use Rattle.sqlite.specs.Held.{state};
 ghost use Rattle.sqlite.specs.State.{HasCleanDisk, Survives};
 ghost use Rattle.table_words.specs.Steps.{IsReady};
 ghost use Rattle.table_words.specs.Typed.{same_card, card_key};
-ghost use Rattle.spellings.specs.declared.start.Start.TheVariants.{Received};
-ghost use Rattle.same_rows.specs.declared.key.RowKey.TheVariants as row;
+ghost use Rattle.texts.specs.declared.start.Start.TheVariants.{Received};
+ghost use Rattle.whole_tables.specs.declared.key.RowKey.TheVariants as row;
 ghost use Rattle.store.specs.declared.fault.Fault.TheVariants.{Store as StoreFault};
 ghost use Rattle.audits.specs.Beginning.{day_or_missing, IsBegun};
 
 use commands::{CardRow, MetaRow};
-use goods_tables::meta::Meta;
-use history_tables::cards::Cards;
 use label::BusinessDay;
-use same_rows::{RowKey, TableName};
-use spellings::{Start, day_before};
 use sqlite::{Alter, Transaction};
 use std::alloc::Global;
 use store::Fault;
 use table_words::error::TableFault;
+use tables::cards::Cards;
+use tables::meta::Meta;
+use texts::{Start, day_before};
 use values::LotId;
-use whole_tables::{all_rows, rows_by_halves};
+use whole_tables::{RowKey, TableName, all_rows, rows_by_halves};
 
 /// What the tables tell of the day that the acts began on.
 #[derive(Clone, Copy)]

@@ -2,16 +2,16 @@
 
 ghost use Rattle.std.specs.Prelude.{◌≡◌};
 ghost use Rattle.sqlite.specs.Held.{state};
-ghost use Rattle.audits.specs.Comparing.{Tells, TellsNext, SameTable};
+ghost use Rattle.whole_tables.specs.Differing.{SameCalled};
+ghost use Rattle.audits.specs.Comparing.{Tells};
 ghost use Rattle.audits.specs.Halves.{SameHalf, TellsAlike};
 
 use crate::finding::Unread;
 use crate::one_table::{Told, compare};
-use same_rows::{Compared, are_same};
 use sqlite::{Alter, Transaction};
 use std::alloc::Global;
 use table_words::error::TableFault;
-use whole_tables::{Half, Halved, half_rows};
+use whole_tables::{Compared, Half, Halved, are_same, half_rows};
 
 /// Whether the two have the same rows in this half of the table, in the same order.
 fn half_alike<T: Compared + Halved, S: Alter, M: Alter>(
@@ -46,7 +46,7 @@ fn halves_alike<T: Compared + Halved, S: Alter, M: Alter>(
 ) -> Result<bool, Unread>
     ensures same_reference { books.new.conn.ghost_name ≡ books.old.conn.ghost_name }
     ensures same_reference_too { replayed.new.conn.ghost_name ≡ replayed.old.conn.ghost_name }
-    ensures tells { TellsAlike (SameTable T.table) (state S.Store books.old.conn.now) (state S.Store books.new.conn.now) (state M.Store replayed.old.conn.now) (state M.Store replayed.new.conn.now) result }
+    ensures tells { TellsAlike (SameCalled T.table_name) (state S.Store books.old.conn.now) (state S.Store books.new.conn.now) (state M.Store replayed.old.conn.now) (state M.Store replayed.new.conn.now) result }
 {
     match half_alike::<T, S, M>(alloc, books, replayed, Half::Lower, middle) {
         Ok(true) => half_alike::<T, S, M>(alloc, books, replayed, Half::Upper, middle),
@@ -56,7 +56,7 @@ fn halves_alike<T: Compared + Halved, S: Alter, M: Alter>(
 
 /// The first row of the table that the two have not alike. It is read whole only where a half differs, or has its rows in
 /// another order. `middle` is a rowid about which the table is halved.
-fn compare_halves<T: Compared + Halved, S: Alter, M: Alter>(
+pub(crate) fn compare_halves<T: Compared + Halved, S: Alter, M: Alter>(
     alloc: Global,
     books: &mut Transaction<'_, S>,
     replayed: &mut Transaction<'_, M>,
@@ -64,29 +64,11 @@ fn compare_halves<T: Compared + Halved, S: Alter, M: Alter>(
 ) -> Told
     ensures same_reference { books.new.conn.ghost_name ≡ books.old.conn.ghost_name }
     ensures same_reference_too { replayed.new.conn.ghost_name ≡ replayed.old.conn.ghost_name }
-    ensures tells { Tells (SameTable T.table) (state S.Store books.old.conn.now) (state S.Store books.new.conn.now) (state M.Store replayed.old.conn.now) (state M.Store replayed.new.conn.now) result }
+    ensures tells { Tells (SameCalled T.table_name) (state S.Store books.old.conn.now) (state S.Store books.new.conn.now) (state M.Store replayed.old.conn.now) (state M.Store replayed.new.conn.now) result }
 {
     if halves_alike::<T, S, M>(alloc, books, replayed, middle)? {
         Ok(None)
     } else {
         compare::<T, S, M>(alloc, books, replayed)
-    }
-}
-
-/// Compares the table too, where nothing was told so far.
-pub(crate) fn next_halves<T: Compared + Halved, S: Alter, M: Alter>(
-    alloc: Global,
-    books: &mut Transaction<'_, S>,
-    replayed: &mut Transaction<'_, M>,
-    middle: &i64,
-    so_far: Told,
-) -> Told
-    ensures same_reference { books.new.conn.ghost_name ≡ books.old.conn.ghost_name }
-    ensures same_reference_too { replayed.new.conn.ghost_name ≡ replayed.old.conn.ghost_name }
-    ensures tells { TellsNext S.Store M.Store (SameTable T.table) so_far books.old.conn.now books.new.conn.now replayed.old.conn.now replayed.new.conn.now result }
-{
-    match so_far {
-        Ok(None) => compare_halves::<T, S, M>(alloc, books, replayed, middle),
-        _ => so_far,
     }
 }

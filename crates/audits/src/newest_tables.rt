@@ -12,10 +12,10 @@ ghost use Rattle.audits.specs.Raising.{IsBegunOver, AreShown, CannotBeRaised};
 use books_schema::migration::bring;
 use books_schema::ready_connection::Found;
 use books_schema::settling::meta_row_at;
-use goods_tables::meta::raise_meta;
 use sqlite::{Alter, Transaction};
 use std::alloc::Global;
 use table_words::error::TableFault;
+use tables::meta::raise_meta;
 
 /// Puts the row of `meta` under the newest number where it has 3. In other books nothing is changed.
 fn raise_number<S: Alter>(alloc: Global, tx: &mut Transaction<'_, S>) -> Result<(), TableFault>

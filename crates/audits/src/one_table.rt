@@ -2,16 +2,16 @@
 
 ghost use Rattle.std.specs.Prelude.{◌≡◌};
 ghost use Rattle.sqlite.specs.Held.{state};
-ghost use Rattle.audits.specs.Comparing.{Tells, TellsNext, SameTable};
+ghost use Rattle.whole_tables.specs.Differing.{SameCalled};
+ghost use Rattle.audits.specs.Comparing.{Tells};
 
 use crate::finding::Unread;
-use same_rows::{Compared, RowKey, first_difference};
 use sqlite::{Alter, Transaction};
 use std::alloc::Global;
 use table_words::error::TableFault;
-use whole_tables::{Entire, all_rows};
+use whole_tables::{Compared, Entire, RowKey, all_rows, first_difference};
 
-/// What comparing has told so far: a row that differs, or none.
+/// What comparing tells: a row that differs, or none.
 pub(crate) type Told = Result<Option<RowKey>, Unread>;
 
 /// The first row of the table that the two have not alike.
@@ -22,7 +22,7 @@ pub(crate) fn compare<T: Compared + Entire, S: Alter, M: Alter>(
 ) -> Told
     ensures same_reference { books.new.conn.ghost_name ≡ books.old.conn.ghost_name }
     ensures same_reference_too { replayed.new.conn.ghost_name ≡ replayed.old.conn.ghost_name }
-    ensures tells { Tells (SameTable T.table) (state S.Store books.old.conn.now) (state S.Store books.new.conn.now) (state M.Store replayed.old.conn.now) (state M.Store replayed.new.conn.now) result }
+    ensures tells { Tells (SameCalled T.table_name) (state S.Store books.old.conn.now) (state S.Store books.new.conn.now) (state M.Store replayed.old.conn.now) (state M.Store replayed.new.conn.now) result }
 {
     let mut mine = match all_rows::<T, S>(alloc, books) {
         Ok(rows) => rows,
@@ -34,21 +34,4 @@ pub(crate) fn compare<T: Compared + Entire, S: Alter, M: Alter>(
         Err(_) => return Err(Unread::Store),
     };
     Ok(first_difference::<T>(&mut mine, &mut theirs))
-}
-
-/// Compares the table too, where nothing was told so far.
-pub(crate) fn next<T: Compared + Entire, S: Alter, M: Alter>(
-    alloc: Global,
-    books: &mut Transaction<'_, S>,
-    replayed: &mut Transaction<'_, M>,
-    so_far: Told,
-) -> Told
-    ensures same_reference { books.new.conn.ghost_name ≡ books.old.conn.ghost_name }
-    ensures same_reference_too { replayed.new.conn.ghost_name ≡ replayed.old.conn.ghost_name }
-    ensures tells { TellsNext S.Store M.Store (SameTable T.table) so_far books.old.conn.now books.new.conn.now replayed.old.conn.now replayed.new.conn.now result }
-{
-    match so_far {
-        Ok(None) => compare::<T, S, M>(alloc, books, replayed),
-        _ => so_far,
-    }
 }

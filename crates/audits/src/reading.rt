@@ -5,19 +5,18 @@ ghost use Rattle.sqlite.specs.Held.{state};
 ghost use Rattle.sqlite.specs.State.{HasCleanDisk, Survives};
 ghost use Rattle.table_words.specs.Steps.{IsReady};
 ghost use Rattle.table_words.specs.Typed.{tables_in};
-ghost use Rattle.history_tables.specs.Repeats.{repeats};
+ghost use Rattle.tables.specs.Repeats.{repeats};
 ghost use Rattle.whole_tables.specs.Whole.{AreAll};
 ghost use Rattle.audits.specs.Comparing.{IsUnread};
 
 use crate::finding::Unread;
 use commands::{MetaRow, RepeatRow};
-use goods_tables::meta::Meta;
-use history_tables::repeats::Repeats;
-use same_rows::TableName;
 use sqlite::{Alter, Transaction};
 use std::alloc::Global;
 use table_words::error::TableFault;
-use whole_tables::{all_rows, rows_by_halves};
+use tables::meta::Meta;
+use tables::repeats::Repeats;
+use whole_tables::{TableName, all_rows, rows_by_halves};
 
 /// The rowid in the middle of as many rows.
 pub(crate) fn middle_of(rows: u64) -> i64 {

@@ -11,7 +11,7 @@ ghost use Rattle.machine.specs.Once.{IsHistory};
 ghost use Rattle.slices.specs.Books.{IsBooksOf};
 ghost use Rattle.store.specs.Opening.{IsCleanLeft, HasSchema, AreRowsAt};
 ghost use Rattle.store.specs.declared.fault.Fault.TheVariants.{Store as StoreFault, Foreign as ForeignFault};
-ghost use Rattle.history_tables.specs.Repeats.{repeats};
+ghost use Rattle.tables.specs.Repeats.{repeats};
 ghost use Rattle.books_schema.specs.Opening.{IsOfNone, IsReadyAs};
 ghost use Rattle.books_schema.specs.declared.ready_connection.Found.{Found as FoundBooks};
 ghost use Rattle.whole_tables.specs.Whole.{AreAll};

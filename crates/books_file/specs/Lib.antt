@@ -1,3 +1,4 @@
 pub mod FirstPage
 pub mod Lines
+pub mod Opened
 pub mod Program

@@ -1,6 +1,5 @@
 -- What a line does with the books in a file.
-use Rattle.std.specs.Prelude.{◌≡◌, ◌⊎◌, ℕ, List, Bool, true, false, Option, Some, None, is_some, Result, Ok, Err, IsErrAnd}
-use Rattle.sqlite_disk.specs.Disk.{Only}
+use Rattle.std.specs.Prelude.{◌≡◌, ◌⊎◌, ℕ, List, Bool, true, false, Option, Some, is_some, Result, Ok, Err}
 use Rattle.sqlite_disk.specs.declared.Disk.{Ghosts}
 use Rattle.sqlite_disk.specs.declared.Files.{Files}
 use Rattle.sqlite_wal.specs.Reads.{AreClean}
@@ -10,8 +9,7 @@ use Rattle.sqlite.specs.Recovery.{Image}
 use Rattle.sqlite.specs.declared.FileStore.{FileStore}
 use Rattle.sqlite.specs.State.{HasCleanDisk}
 use Rattle.sqlite.specs.Held.{Held}
-use Rattle.sqlite.specs.declared.file.Leftover.{Leftover as OpenLeftover}
-use Rattle.sqlite.specs.Files.{over_files, file_state, image_of, IsOpened, LeavesFiles, IsCleanLeft as IsCleanFailed}
+use Rattle.sqlite.specs.Files.{over_files, file_state, IsOpened}
 use Rattle.sqlite.specs.Start.{FindsIn}
 use Rattle.sqlite.specs.Closing.{IsCopied}
 use Rattle.books_schema.specs.declared.ready_connection.Leftover.{Leftover}
@@ -21,19 +19,18 @@ use Rattle.command_line.specs.declared.fault.Fault.{Fault}
 use Rattle.command_line.specs.declared.fault.Fault.TheVariants.{Acts, Io, Store}
 use Rattle.command_line.specs.declared.running.Work.{Work}
 use Rattle.command_line.specs.declared.running.Work.TheVariants.{Make, Serve, Import, Card, Notice, History, Audit, Apply}
-use Rattle.kept_lines.specs.Lines.{LosesNoLineIf}
+use Rattle.line_work.specs.Lines.{LosesNoLineIf}
 use Rattle.line_work.specs.Works.{IsServer, IsNotBegun, IsWorked, IsJudged, IsTold, IsKeptBeside}
 use Rattle.books_file.specs.declared.left.FilesLeft.{FilesLeft}
 use Rattle.books_file.specs.declared.left.FilesLeft.TheVariants as left
+use Rattle.books_file.specs.declared.left.NoActs.{NoActs}
+use Rattle.books_file.specs.declared.left.NoActs.TheVariants as closed
+use Rattle.books_file.specs.Opened.{HoldsOnly, HasFailed}
 
 -- this is the store of what is left of a connection, and since then it was only rolled back: a stop leaves nothing new
 abbrev pub IsStoreOf : {S : Type 0} → trees.Ghosts S → Leftover S → S → Type 0
 IsStoreOf g (Connection conn) store = IsQuiet g.view g.faults g.recovers g.is_shielded conn.store store
 IsStoreOf g (StoreOf it) store = store ≡ it
-
--- the files could not be opened, or a server's port could not be had
-abbrev pub IsUnopenedAs : Work → Fault → Type 0
-IsUnopenedAs work fault = (fault ≡ Store) ⊎ (IsServer work × (fault ≡ Io))
 
 -- whether a file of the acts is named
 abbrev pub names_acts : Work → Bool
@@ -45,14 +42,6 @@ names_acts (Notice lot) = false
 names_acts History = false
 names_acts (Audit given) = false
 names_acts (Apply file) = false
-
--- the file holds these bytes, and a stop leaves nothing else of it
-abbrev pub HoldsOnly : {A : Type 0} → Ghosts A → (held : List ℕ) → A → Type 0
-HoldsOnly h held file = (h.seen file ≡ held) × Only held (h.may_leave file)
-
--- there is a file, which holds these bytes
-abbrev pub IsThere : {A : Type 0} → Ghosts A → (held : List ℕ) → Option A → Type 0
-IsThere {A} h held found = (file : A) × (found ≡ Some file) × HoldsOnly h held file
 
 -- the file of the acts was opened exactly where one is named, and held these bytes
 abbrev pub IsFoundBeside : {A : Type 0} → Ghosts A → (held : List ℕ) → Work → Option A → Type 0
@@ -115,28 +104,36 @@ module _ {D A : Type 0} (g : Ghosts D) (h : Ghosts A) (held : Image) (files : Li
     pub how : IsLineIdle opened left end ⊎ IsUnclosed opened left end
     pub is_store : IsStoreOf over_files left store
 
-  -- The file and its log were opened, but not as a database: nothing was printed or logged. They held what they held, also after
-  -- whatever stop, and what is left of them is that, or what `LeavesFiles` says of an open that failed.
-  pub record IsLineFailed (end : Result Unit Fault) (left : OpenLeftover D g) : Type 0 where
-    pub ended : end ≡ Err Store
-    pub silent : (new ≡ old) × (log_new ≡ log_old)
-    pub unused : after ≡ before
-    pub opened : Files D
-    pub found : image_of g opened ≡ held
-    pub log_only : Only held.log (g.may_leave opened.log)
-    pub db_only : Only held.db (g.may_leave opened.db)
-    pub leaves : IsCleanFailed left → LeavesFiles opened left
+  -- nothing was printed or logged, and the file of the acts is as it was
+  abbrev pub IsIdle : Type 0
+  IsIdle = (new ≡ old) × (log_new ≡ log_old) × (after ≡ before)
 
-  -- how a line ends, and what it leaves of the files of the books
-  abbrev pub IsBooksEnd : Result Unit Fault → FilesLeft D g → Type 0
-  IsBooksEnd end left.Unopened = IsErrAnd end (IsUnopenedAs work) × (new ≡ old) × (log_new ≡ log_old) × (after ≡ before)
-  IsBooksEnd end (left.Failed kept) = IsLineFailed end kept
+  -- How a line ends, and what it leaves of the files of the books. They are untouched where a server's port could not be had; else the system
+  -- did not open them, or they were opened, but not as a database.
+  abbrev pub IsBooksEnd : {S : Type 0} → Result Unit Fault → FilesLeft D S g → Type 0
+  IsBooksEnd end (left.Unopened start) = (end ≡ Err Io) × IsServer work × IsIdle
+  IsBooksEnd end (left.NotOpened it) = (end ≡ Err Store) × IsIdle
+  IsBooksEnd end (left.Failed kept) = (end ≡ Err Store) × IsIdle × HasFailed g held kept
   IsBooksEnd end (left.Closed kept) = IsLineDone end kept
   IsBooksEnd end (left.Store store) = IsLineBroken end store
 
--- No file was opened: there is none at the path of the books, or the one that is named for the acts could not be opened. Or the file of
--- the acts, which held these bytes, was opened if one is named, and then the line ended so.
-abbrev pub IsLineEnd : {D A : Type 0} → (g : Ghosts D) → Ghosts A → Image → (acts_held : List ℕ) → (List ℕ → Option (List ℕ)) → Work → (old new log_old log_new : Option (List ℕ)) → Result Unit Fault → FilesLeft D g → Option A → Type 0
-IsLineEnd {D} {A} g h held acts_held files work old new log_old log_new end books after =
-    ((books ≡ left.Unopened) × ((end ≡ Err Store) ⊎ ((names_acts work ≡ true) × (end ≡ Err Acts))) × (new ≡ old) × (log_new ≡ log_old) × (after ≡ None))
-    ⊎ ((before : Option A) × IsFoundBeside h acts_held work before × IsBooksEnd g h held files before after work old new log_old log_new end books)
+-- how a line ends for which the file of the acts is not open: there are no books at the path, or the system did not open that file
+abbrev pub IsNoActs : {T : Type 0} → Work → Result Unit Fault → NoActs T → Type 0
+IsNoActs work end (closed.Unopened start) = end ≡ Err Store
+IsNoActs work end (closed.NotOpened it) = (names_acts work ≡ true) × (end ≡ Err Acts)
+
+-- the files of the books were not touched
+abbrev pub AreUntouched : {D S : Type 0} → (g : Ghosts D) → FilesLeft D S g → Type 0
+AreUntouched g (left.Unopened start) = Unit {0}
+AreUntouched g (left.NotOpened it) = ⊥
+AreUntouched g (left.Failed kept) = ⊥
+AreUntouched g (left.Closed kept) = ⊥
+AreUntouched g (left.Store store) = ⊥
+
+-- Where the file of the acts was not opened, those of the books are untouched, and nothing is printed or logged. Else it was opened if one
+-- is named, held these bytes, and then the line ended so.
+abbrev pub IsLineEnd : {D S A T : Type 0} → (g : Ghosts D) → Ghosts A → Image → (acts_held : List ℕ) → (List ℕ → Option (List ℕ)) → Work → (old new log_old log_new : Option (List ℕ)) → Result Unit Fault → FilesLeft D S g → Result (Option A) (NoActs T) → Type 0
+IsLineEnd {D} {S} {A} {T} g h held acts_held files work old new log_old log_new end books (Err why) =
+    AreUntouched g books × IsNoActs work end why × (new ≡ old) × (log_new ≡ log_old)
+IsLineEnd {D} {S} {A} {T} g h held acts_held files work old new log_old log_new end books (Ok after) =
+    (before : Option A) × IsFoundBeside h acts_held work before × IsBooksEnd g h held files before after work old new log_old log_new end books

@@ -1,23 +1,19 @@
 //! The file of the acts, in a file of the host.
 
 ghost use Rattle.std.specs.Prelude.{◌≡◌, true, is_some, IfOk, OnErr};
-ghost use Rattle.books_file.specs.Lines.{IsFoundBeside, IsThere, names_acts};
+ghost use Rattle.books_file.specs.Lines.{IsFoundBeside, names_acts};
 
+use crate::opening::{NotOpened, open_acts};
 use command_line::Work;
-use sqlite::{FileFrom, Files, Start};
+use sqlite::{FileFrom, Start};
 use sqlite_disk::Disk;
-use sqlite_std_file::open;
-
-/// The file of the acts could not be opened.
-#[derive(Clone, Copy)]
-pub(crate) struct NoActsFile;
 
 /// Opens the file of the acts that the line names, if it names one. Where there is no file it is made.
 pub(crate) fn open_named<A: Start>(
     rt: &HostRuntime,
     work: &Work<'_>,
     start: A,
-) -> Result<Option<FileFrom<A>>, NoActsFile>
+) -> Result<Option<FileFrom<A>>, NotOpened<A>>
     ensures opened { IfOk result (IsFoundBeside ⟦<FileFrom<A> as Disk>⟧ A.Start.db work.now) }
     ensures named { OnErr result (names_acts work.now ≡ true) }
 {
@@ -35,23 +31,5 @@ fn acts_name<'a>(work: &Work<'a>) -> Option<&'a str>
         Work::Serve { acts, .. } => *acts,
         Work::Import { acts, .. } => *acts,
         _ => None,
-    }
-}
-
-/// Opens the file, and makes it where there is none. It has no log: what lies beside it as one is let go.
-fn open_acts<A: Start>(
-    rt: &HostRuntime,
-    name: &str,
-    start: A,
-) -> Result<Option<FileFrom<A>>, NoActsFile>
-    ensures { IfOk result (IsThere ⟦<FileFrom<A> as Disk>⟧ A.Start.db) }
-{
-    match open(rt, name, start) {
-        Ok(files) => {
-            let Files { log, db } = files;
-            drop(log);
-            Ok(Some(db))
-        }
-        Err(_) => Err(NoActsFile),
     }
 }

@@ -6,10 +6,11 @@ ghost use Rattle.books_file.specs.Lines.{IsBooksEnd, IsLineEnd, closing_fault as
 use crate::acts_file::open_named;
 use crate::first_page::is_ready;
 use crate::host_files::HostFiles;
-use crate::left::{FilesLeft, LineLeft, store_of};
+use crate::left::{FilesLeft, LineLeft, NoActs, store_of};
+use crate::opening::{NoBooks, open_books};
 use command_line::{BooksAt, Fault, FilesAt, Work};
 use line_work::{do_work, listen};
-use sqlite::{Connection, FileFrom, Start};
+use sqlite::{FileFrom, Start};
 use sqlite_disk::Disk;
 use std::io::Write;
 use std::net::TcpListener;
@@ -29,7 +30,7 @@ impl<S: Start, A: Start> BooksAt for InFiles<'_, S, A> {
     ghost use Rattle.sqlite.specs.WalFiles.{image_at};
     ghost use Rattle.books_file.specs.Lines.{IsLineEnd};
 
-    type Left = LineLeft<FileFrom<S>, FileFrom<A>>;
+    type Left = LineLeft<FileFrom<S>, S, FileFrom<A>, A>;
 
     // What a file of the host that a line reads holds nothing says.
     ghost ends = { λ _ _ work old new log_old log_new end left. IsLineEnd ⟦<FileFrom<S> as Disk>⟧ ⟦<FileFrom<A> as Disk>⟧ (image_at S.Start) A.Start.db (λ _. None) work old new log_old log_new end left.books left.acts };
@@ -42,10 +43,12 @@ impl<S: Start, A: Start> BooksAt for InFiles<'_, S, A> {
         work: &Work<'_>,
         out: &mut W,
         log: &mut L,
-    ) -> (LineLeft<FileFrom<S>, FileFrom<A>>, Result<(), Fault>) {
+    ) -> (LineLeft<FileFrom<S>, S, FileFrom<A>, A>, Result<(), Fault>) {
         let InFiles { rt, start, acts } = self;
         if !is_ready(rt, rt.alloc(), db, work) {
-            return (LineLeft::none(), Err(Fault::Store));
+            let books = FilesLeft::Unopened(start);
+            let acts = Err(NoActs::Unopened(acts));
+            return (LineLeft { books, acts }, Err(Fault::Store));
         }
         line_worked(rt, &HostFiles { rt }, db, start, acts, work, out, log)
     }
@@ -67,7 +70,7 @@ pub fn line_worked<S: Start, A: Start, F: FilesAt, W: Write, L: Write>(
     work: &Work<'_>,
     out: &mut W,
     log: &mut L,
-) -> (LineLeft<FileFrom<S>, FileFrom<A>>, Result<(), Fault>)
+) -> (LineLeft<FileFrom<S>, S, FileFrom<A>, A>, Result<(), Fault>)
     ensures done { IsLineEnd ⟦<FileFrom<S> as Disk>⟧ ⟦<FileFrom<A> as Disk>⟧ (image_at S.Start) A.Start.db (F.bytes files.now) work.now (W.contents out.old) (W.contents out.new) (L.contents log.old) (L.contents log.new) result.1 result.0.books result.0.acts }
     ensures quiet { is_logged work.now ≡ false → log.new ≡ log.old }
 {
@@ -75,9 +78,14 @@ pub fn line_worked<S: Start, A: Start, F: FilesAt, W: Write, L: Write>(
         Ok(opened) => {
             let mut acts = opened;
             let (books, end) = line_listened(rt, files, &mut acts, db, start, work, out, log);
+            let acts = Ok(acts);
             (LineLeft { books, acts }, end)
         }
-        Err(_) => (LineLeft::none(), Err(Fault::Acts)),
+        Err(none) => {
+            let books = FilesLeft::Unopened(start);
+            let acts = Err(NoActs::NotOpened(none));
+            (LineLeft { books, acts }, Err(Fault::Acts))
+        }
     }
 }
 
@@ -91,7 +99,7 @@ fn line_listened<S: Start, A: Start, F: FilesAt, W: Write, L: Write>(
     work: &Work<'_>,
     out: &mut W,
     log: &mut L,
-) -> (FilesLeft<FileFrom<S>>, Result<(), Fault>)
+) -> (FilesLeft<FileFrom<S>, S>, Result<(), Fault>)
     ensures done { IsBooksEnd ⟦<FileFrom<S> as Disk>⟧ ⟦<FileFrom<A> as Disk>⟧ (image_at S.Start) (F.bytes files.now) acts.old acts.new work.now (W.contents out.old) (W.contents out.new) (L.contents log.old) (L.contents log.new) result.1 result.0 }
     ensures quiet { is_logged work.now ≡ false → log.new ≡ log.old }
 {
@@ -109,12 +117,12 @@ fn line_listened<S: Start, A: Start, F: FilesAt, W: Write, L: Write>(
                 log,
             )
         }
-        Err(_) => (FilesLeft::Unopened, Err(Fault::Io)),
+        Err(_) => (FilesLeft::Unopened(start), Err(Fault::Io)),
     }
 }
 
 /// The same, where a server's port is listened on.
-// The one function over the connection's own type: each costs the proof as much as all else here.
+// The one function over the connection's own type but for `open_books`: each costs the proof as much as all else here.
 fn work_over<S: Start, A: Start, F: FilesAt, W: Write, L: Write>(
     rt: &HostRuntime,
     files: &F,
@@ -125,12 +133,12 @@ fn work_over<S: Start, A: Start, F: FilesAt, W: Write, L: Write>(
     work: &Work<'_>,
     out: &mut W,
     log: &mut L,
-) -> (FilesLeft<FileFrom<S>>, Result<(), Fault>)
+) -> (FilesLeft<FileFrom<S>, S>, Result<(), Fault>)
     requires listens { Listens work.now listener }
     ensures done { IsBooksEnd ⟦<FileFrom<S> as Disk>⟧ ⟦<FileFrom<A> as Disk>⟧ (image_at S.Start) (F.bytes files.now) acts.old acts.new work.now (W.contents out.old) (W.contents out.new) (L.contents log.old) (L.contents log.new) result.1 result.0 }
     ensures quiet { is_logged work.now ≡ false → log.new ≡ log.old }
 {
-    match Connection::open_from(rt, db, false, start) {
+    match open_books(rt, db, start) {
         Ok(conn) => match do_work(rt, files, listener, acts, conn, work, out, log) {
             Ok((conn, end)) => match conn.close_files() {
                 Ok(left) => (FilesLeft::Closed(left), end),
@@ -138,8 +146,8 @@ fn work_over<S: Start, A: Start, F: FilesAt, W: Write, L: Write>(
             },
             Err((left, fault)) => (FilesLeft::Store(store_of(left)), Err(fault)),
         },
-        Err((_, Some(left))) => (FilesLeft::Failed(left), Err(Fault::Store)),
-        Err((_, None)) => (FilesLeft::Unopened, Err(Fault::Store)),
+        Err(NoBooks::Failed(left)) => (FilesLeft::Failed(left), Err(Fault::Store)),
+        Err(NoBooks::NotOpened(none)) => (FilesLeft::NotOpened(none), Err(Fault::Store)),
     }
 }
 

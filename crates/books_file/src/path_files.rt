@@ -1,8 +1,9 @@
 //! The files at the path of a line, before the books in them are opened.
 
-ghost use Rattle.std.specs.Prelude.{◌≡◌, true, IfOk, IfErr};
+ghost use Rattle.std.specs.Prelude.{◌≡◌, true, IfOk, IfErr, OnOk};
 ghost use Rattle.std.specs.Fs.{metadata_len, file_type, IsFile};
 ghost use Rattle.std.specs.IoError.{error_kind};
+ghost use Rattle.books_file.specs.FirstPage.{IsPageWritten};
 
 use empty_database::first_page::first_page;
 use std::alloc::{AllocError, Global};
@@ -206,6 +207,13 @@ fn write_page<F: OpenFile + Write>(file: &mut F, found: io::Result<Metadata>) ->
     if let Ok(found) = found {
         file.set_permissions(found.permissions())?;
     }
-    file.write_all(&first_page())?;
+    put_page(file)?;
     file.sync_all()
+}
+
+/// Writes the page.
+fn put_page<W: Write>(out: &mut W) -> io::Result<()>
+    ensures { OnOk result (IsPageWritten (W.contents out.old) (W.contents out.new)) }
+{
+    out.write_all(&first_page())
 }

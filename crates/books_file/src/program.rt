@@ -1,6 +1,7 @@
 //! The program, over the host that it runs on.
 
-ghost use Rattle.std.specs.Prelude.{◌≤◌};
+ghost use Rattle.std.specs.Prelude.{◌≤◌, map};
+ghost use Rattle.std.specs.Result.{result_map_both};
 ghost use Rattle.sqlite.specs.WalFiles.{image_at};
 ghost use Rattle.command_line.specs.declared.running.TheConstants.{MISUSED};
 ghost use Rattle.books_file.specs.Program.{IsNoWordsTold, IsProgramRun};
@@ -51,8 +52,8 @@ pub fn run_words<S: Start, A: Start, W: Write, E: Write>(
     words: &Result<Vec<String>, NoWords>,
     out: &mut W,
     err: &mut E,
-) -> (Option<LineLeft<FileFrom<S>, FileFrom<A>>>, u8)
-    ensures run { IsProgramRun ⟦<FileFrom<S> as Disk>⟧ ⟦<FileFrom<A> as Disk>⟧ (image_at S.Start) A.Start.db words.now (W.contents out.old) (W.contents out.new) (E.contents err.old) (E.contents err.new) result.1 result.0 }
+) -> (Option<LineLeft<FileFrom<S>, S, FileFrom<A>, A>>, u8)
+    ensures run { IsProgramRun ⟦<FileFrom<S> as Disk>⟧ ⟦<FileFrom<A> as Disk>⟧ (image_at S.Start) A.Start.db (result_map_both (λ v. map (λ s. s.bytes.items) v.items) (λ why. why) words.now) (W.contents out.old) (W.contents out.new) (E.contents err.old) (E.contents err.new) result.1 result.0 }
     ensures range { result.1 ≤ MISUSED }
 {
     match words {

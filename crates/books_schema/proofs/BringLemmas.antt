@@ -1,42 +1,8 @@
 -- What bringing older books up makes of their tables.
-use Rattle.std.proofs.Common.{◌≡◌, inl, inr, ℕ, ℤ, Bool, true, false, Option, Some, None, List, [], ◌∷◌, ◌++◌, ◌||◌, map, filter, drop, cond, refl, sym, ap, subst, ◌∙◌}
-use Rattle.std.specs.Prelude.{◌↔◌, if◌then◌else◌, option_map, find, bytes_eq}
-use Rattle.std.specs.List.{AllByRecursion, list_all, list_any}
-use Rattle.std.proofs.lemmas.Bool.{cases_Bool}
-use Rattle.std.proofs.lemmas.Slice.Eq.{bytes_eq-Decides}
-use Rattle.sqlite.specs.Effect.{Database}
-use Rattle.sqlite.specs.Held.{Held, state}
+use Rattle.books_schema.proofs.Words.{◌≡◌, inl, inr, ℕ, ℤ, Bool, true, false, Option, Some, None, List, [], ◌∷◌, ◌++◌, ◌||◌, map, filter, drop, cond, refl, sym, ap, subst, ◌∙◌, ◌↔◌, if◌then◌else◌, option_map, find, bytes_eq, AllByRecursion, list_all, list_any, cases_Bool, bytes_eq-Decides, Database, Held, state, column, Schema, State, IsUnchanged, Table, Trees, created, IsSound, all_both, all_weaker, all-filter, all-append, Ghosts, with_least, asking_none, ItemRow, LeastRow, MetaRow, each_written, typed, is_the_number, IsRows, schema_with, the_tables, least_table, least_tree, urgents_table, urgents_tree, meta_tree, is_harmless, IsReady, Goes, is_stored_row, Tables, tables_in, with_meta, with_least_row, is_meta_at, meta_in, same_meta, meta_key, meta_at, item_mapping, least_mapping, urgent_mapping, Rule, rule_for, first_rules, second_rules, Keeps, AreTyped, AreTypedAt, tables_same, front, as_brought, older_tables_in, AreOlderTyped, AreFillersTyped, AreOlderRows, IsOlderReady, IsOlder, HasRoom, row_of, AsksNone, Fills, IsWritten, IsFilled, Makes, IsGrown, HasIndexes, IsIndexed, number, older_tables, lacking_tables, older_with, KeepsOlderRows, HasOurs, OlderBooks, First, Second, HasDayAt, HasRow, CREATE_LEAST, CREATE_URGENTS}
 use Rattle.sqlite.specs.Listing.{understood}
-use Rattle.sqlite.specs.Order.{Row, column}
-use Rattle.sqlite.specs.Schema.{Schema}
-use Rattle.sqlite.specs.State.{State, IsUnchanged}
-use Rattle.sqlite.specs.Table.{Table}
-use Rattle.sqlite.specs.Tree.{Trees}
-use Rattle.sqlite.specs.Change.{created}
-use Rattle.sqlite_catalog.specs.Listing.{IsSound}
-use Rattle.sqlite_keyed.proofs.ListLemmas.{all_both, all_weaker, all-filter, all-append}
+use Rattle.sqlite.specs.Order.{Row}
 use Rattle.sqlite_tied.specs.Compute.{everything}
-use Rattle.sqlite_trees.specs.declared.store.Store.{Ghosts}
-use Rattle.commands.specs.Schemas.{with_least, asking_none}
-use Rattle.commands.specs.declared.rows.ItemRow.{ItemRow}
-use Rattle.commands.specs.declared.rows.LeastRow.{LeastRow}
-use Rattle.commands.specs.declared.rows.MetaRow.{MetaRow}
-use Rattle.keyed_rows.specs.Writes.{each_written}
-use Rattle.table_words.specs.Cells.{typed, is_the_number}
-use Rattle.table_words.specs.Rows.{IsRows}
-use Rattle.table_words.specs.Schema.{schema_with, the_tables, least_table, least_tree, urgents_table, urgents_tree, meta_tree, is_harmless}
-use Rattle.table_words.specs.Steps.{IsReady, Goes}
-use Rattle.table_words.specs.Stored.{is_stored_row}
-use Rattle.table_words.specs.Typed.{Tables, tables_in, with_meta, with_least as with_least_row, is_meta_at, meta_in, same_meta, meta_key, meta_at, item_mapping, least_mapping, urgent_mapping, Rule, rule_for, first_rules, second_rules, Keeps, AreTyped, AreTypedAt}
-use Rattle.table_words.proofs.StepLemmas.{tables_same, front}
-use Rattle.books_schema.specs.Bringing.{as_brought, older_tables_in, AreOlderTyped, AreFillersTyped, AreOlderRows, IsOlderReady, IsOlder, HasRoom, row_of, AsksNone, Fills, IsWritten, IsFilled}
-use Rattle.books_schema.specs.Growing.{Makes, IsGrown}
-use Rattle.books_schema.specs.Indexing.{HasIndexes, IsIndexed}
-use Rattle.books_schema.specs.Older.{number, older_tables, lacking_tables, older_with, KeepsOlderRows, HasOurs}
-use Rattle.books_schema.specs.declared.older.OlderBooks.{OlderBooks}
-use Rattle.books_schema.specs.declared.older.OlderBooks.TheVariants.{First, Second}
-use Rattle.books_schema.specs.Settling.{HasDayAt, HasRow}
-use Rattle.books_schema.specs.declared.layouts.TheConstants.{CREATE_LEAST, CREATE_URGENTS}
 use Rattle.books_schema.proofs.SettleLemmas.{each_itself, typed_then}
 
 -- ---- the tables that they lack

@@ -1,22 +1,6 @@
 -- What making the tables of the books leaves in a database that has nothing.
-use Rattle.std.proofs.Common.{◌≡◌, IsTrue, true, [], Ok, Err, Result, OnOk, refl, sym, ap, subst, ◌∙◌}
-use Rattle.std.specs.List.{AllByRecursion}
-use Rattle.sqlite_catalog.specs.Listing.{IsSound}
+use Rattle.books_schema.proofs.Words.{◌≡◌, IsTrue, true, [], Ok, Err, Result, OnOk, refl, sym, ap, subst, ◌∙◌, AllByRecursion, IsSound, Trees, Held, state, State, IsLive, all_weaker, the_tables, schema_0, IsRows, MetaRow, BinRow, tables_in, no_rows, with_meta, with_bin, the_rules, Keeps, AreTyped, Goes, tables_same, typed_same, IsVoid, Holds, first_rows, IsGrown, IsIndexed}
 use Rattle.sqlite.specs.Store.{Ghosts}
-use Rattle.sqlite.specs.Tree.{Trees}
-use Rattle.sqlite.specs.Held.{Held, state}
-use Rattle.sqlite.specs.State.{State, IsLive}
-use Rattle.sqlite_keyed.proofs.ListLemmas.{all_weaker}
-use Rattle.table_words.specs.Schema.{the_tables, schema_0}
-use Rattle.table_words.specs.Rows.{IsRows}
-use Rattle.commands.specs.declared.rows.MetaRow.{MetaRow}
-use Rattle.commands.specs.declared.rows.BinRow.{BinRow}
-use Rattle.table_words.specs.Typed.{tables_in, no_rows, with_meta, with_bin, the_rules, Keeps, AreTyped}
-use Rattle.table_words.specs.Steps.{Goes}
-use Rattle.table_words.proofs.StepLemmas.{tables_same, typed_same}
-use Rattle.books_schema.specs.Creation.{IsVoid, Holds, first_rows}
-use Rattle.books_schema.specs.Growing.{IsGrown}
-use Rattle.books_schema.specs.Indexing.{IsIndexed}
 use Rattle.books_schema.proofs.Texts.{the_schema, the_harmless}
 
 -- nothing was added so far

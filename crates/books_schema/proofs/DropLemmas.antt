@@ -1,31 +1,5 @@
 -- What a statement that drops an index of the books leaves of older books.
-use Rattle.std.proofs.Common.{◌≡◌, ◌+◌, inl, inr, ℕ, Bool, true, false, not, None, Some, slice_get, Option, List, [], ◌∷◌, ◌++◌, filter, length, Ok, refl, sym, ap, subst, ◌∙◌, append_assoc, arith}
-use Rattle.std.proofs.lemmas.Bool.{cases_Bool, and_parts, or_cases, or_parts, not-true, eq-eqb, ne_eqb, ltb-true}
-use Rattle.std.proofs.lemmas.Grind.{common_steps}
-use Rattle.std.proofs.lemmas.Option.{gets}
-use Rattle.std.proofs.lemmas.Slice.Eq.{bytes_eq-Decides}
-use Rattle.std.specs.Prelude.{◌==◌, bytes_eq, nat_lt}
-use Rattle.std.specs.List.{AllByRecursion, list_all, list_any, position_from}
-use Rattle.sqlite.specs.Command.TheVariants.{DropIndex, Nothing}
-use Rattle.sqlite.specs.Change.{without_index}
-use Rattle.sqlite.specs.Does.{Tally, AtPlace, Defines, Leaves}
-use Rattle.sqlite.specs.Effect.{Database, IsDatabase, RefusesToAlter}
-use Rattle.sqlite.specs.Schema.{Schema}
-use Rattle.sqlite.specs.State.{State, mode_of, ExecutesInside}
-use Rattle.sqlite.specs.Tree.{Trees}
-use Rattle.sqlite.proofs.Callers.{IsPlain, command_of, runs_as}
-use Rattle.sqlite_schema.specs.Names.{same_name}
-use Rattle.sqlite_schema.specs.declared.schema.Index.{Index}
-use Rattle.sqlite_catalog.specs.Calls.{RefusesToDropIndex}
-use Rattle.sqlite_catalog.proofs.StepLemmas.{same_itself}
-use Rattle.sqlite_keyed.proofs.ListLemmas.{all_both, all_weaker, all_from_test}
-use Rattle.table_words.specs.Found.{no_two}
-use Rattle.table_words.proofs.WriteLemmas.{went, same_value}
-use Rattle.books_schema.specs.Indexing.{plan}
-use Rattle.books_schema.specs.Layouts.{PlainIndex, is_of}
-use Rattle.books_schema.specs.Older.{older_tables, older_keys, last_tree, older_with, our_indexes, is_index_of_books, is_ours, same_named, AreOurs, KeepsOlderRows, HasOurs, lacks, HasFewer, drop_found, Drops}
-use Rattle.books_schema.specs.declared.older.OlderBooks.{OlderBooks}
-use Rattle.books_schema.specs.declared.older.OlderBooks.TheVariants.{First, Second}
+use Rattle.books_schema.proofs.Words.{◌≡◌, ◌+◌, inl, inr, ℕ, Bool, true, false, not, None, Some, slice_get, Option, List, [], ◌∷◌, ◌++◌, filter, length, Ok, refl, sym, ap, subst, ◌∙◌, append_assoc, arith, cases_Bool, and_parts, or_cases, or_parts, not-true, eq-eqb, ne_eqb, ltb-true, common_steps, gets, bytes_eq-Decides, ◌==◌, bytes_eq, nat_lt, AllByRecursion, list_all, list_any, position_from, DropIndex, Nothing, without_index, Tally, AtPlace, Defines, Leaves, Database, IsDatabase, RefusesToAlter, Schema, State, mode_of, ExecutesInside, Trees, IsPlain, command_of, runs_as, same_name, Index, RefusesToDropIndex, same_itself, all_both, all_weaker, all_from_test, no_two, went, same_value, plan, PlainIndex, is_of, older_tables, older_keys, last_tree, older_with, our_indexes, is_index_of_books, is_ours, same_named, AreOurs, KeepsOlderRows, HasOurs, lacks, HasFewer, drop_found, Drops, OlderBooks, First, Second}
 
 -- ---- what a filter keeps
 

@@ -1,21 +1,7 @@
 -- What the texts that drop the indexes mean in older books.
-use Rattle.std.proofs.Common.{◌≡◌, ◌∙◌, ℕ, List, codes, refl, Option, None, Some, Ok, Result, true, false, length}
-use Rattle.std.specs.List.{AllByRecursion, position_from}
-use Rattle.sqlite_schema.specs.Names.{same_name}
-use Rattle.sqlite_schema.specs.declared.schema.Index.{Index}
-use Rattle.sqlite.specs.Command.TheVariants.{DropIndex}
+use Rattle.books_schema.proofs.Words.{◌≡◌, ◌∙◌, ℕ, List, codes, refl, Option, None, Some, Ok, Result, true, false, length, AllByRecursion, position_from, same_name, Index, DropIndex, misses_table, compiled, dropped, Compiled, CompileError, NoSuchIndex, plan, PlainIndex, older_with, older_keys, our_indexes, is_index_of_books, drop_found, Drops, OlderBooks, First, Second, DROP_STAGED_BY_GTIN, DROP_RESERVED_BY_GTIN, DROP_SHIPLINES_OF_LOT, DROP_ORDERS_BY_STATE}
 use Rattle.sqlite_tied.specs.Compute.{everything}
-use Rattle.sqlite.specs.Listing.{understood, misses_table}
-use Rattle.sqlite_resolve.specs.Compile.{compiled, dropped}
-use Rattle.sqlite_resolve.specs.declared.compiled.Compiled.{Compiled}
-use Rattle.sqlite_resolve.specs.declared.error.CompileError.{CompileError}
-use Rattle.sqlite_resolve.specs.declared.error.CompileError.TheVariants.{NoSuchIndex}
-use Rattle.books_schema.specs.Indexing.{plan}
-use Rattle.books_schema.specs.Layouts.{PlainIndex}
-use Rattle.books_schema.specs.Older.{older_with, older_keys, our_indexes, is_index_of_books, drop_found, Drops}
-use Rattle.books_schema.specs.declared.older.OlderBooks.{OlderBooks}
-use Rattle.books_schema.specs.declared.older.OlderBooks.TheVariants.{First, Second}
-use Rattle.books_schema.specs.declared.dropping.TheConstants.{DROP_STAGED_BY_GTIN, DROP_RESERVED_BY_GTIN, DROP_SHIPLINES_OF_LOT, DROP_ORDERS_BY_STATE}
+use Rattle.sqlite.specs.Listing.{understood}
 use Rattle.books_schema.proofs.IndexTexts.{whole_of, understood_as}
 use Rattle.books_schema.proofs.DropLemmas.{named_by}
 

@@ -1,13 +1,5 @@
 -- What a transaction comes to, by how it ends.
-use Rattle.std.proofs.Common.{◌≡◌, true, false, Ok, Err, Result, OnOk, OnErr, IfOk, IfErr, sym, subst, inl, inr}
-use Rattle.std.specs.Result.{IsOk}
-use Rattle.sqlite.specs.State.{State, HasCleanDisk, Shows, IsRolledBack, KeepsCommit, Survives}
-use Rattle.sqlite.specs.Steps.{FailsToCommit}
-use Rattle.sqlite.specs.Tree.{Trees}
-use Rattle.sqlite.specs.declared.error.Error.{Error}
-use Rattle.sqlite.proofs.StateLemmas.{survives_then}
-use Rattle.table_words.proofs.CallLemmas.{kept_undone, kept_unchanged}
-use Rattle.books_schema.specs.Ending.{Ends}
+use Rattle.books_schema.proofs.Words.{◌≡◌, true, false, Ok, Err, Result, OnOk, OnErr, IfOk, IfErr, sym, subst, inl, inr, IsOk, State, HasCleanDisk, Shows, IsRolledBack, KeepsCommit, Survives, FailsToCommit, Trees, Error, survives_then, kept_undone, kept_unchanged, Ends}
 
 -- in a transaction that goes on, a commit that fails puts back what was there before
 pub rolled_back : (last new : State) (cause : Error) → last.in_transaction ≡ true → FailsToCommit last new cause → IsRolledBack last new

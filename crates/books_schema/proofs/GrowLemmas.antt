@@ -1,21 +1,5 @@
 -- What CREATE TABLE makes beside tables that have rows.
-use Rattle.std.proofs.Common.{◌≡◌, ℕ, false, None, List, [], ◌∷◌, ◌++◌, Ok, refl, sym, ap, subst, ◌∙◌, append_assoc}
-use Rattle.std.specs.List.{AllByRecursion}
-use Rattle.sqlite.specs.Command.TheVariants.{CreateTable}
-use Rattle.sqlite.specs.Change.{created, next_tree}
-use Rattle.sqlite.specs.Does.{Tally, lacks_sequence}
-use Rattle.sqlite.specs.Schema.{Schema}
-use Rattle.sqlite.specs.Table.{Table}
-use Rattle.sqlite.specs.Effect.{Database}
-use Rattle.sqlite.specs.Tree.{Trees}
-use Rattle.sqlite.specs.State.{State, Writes, ExecutesInside}
-use Rattle.sqlite.proofs.Callers.{runs_as}
-use Rattle.sqlite_keyed.proofs.ListLemmas.{all-append, all_both}
-use Rattle.table_words.proofs.StepLemmas.{front}
-use Rattle.table_words.proofs.WriteLemmas.{went, same_value}
-use Rattle.books_schema.specs.Layouts.{table_at}
-use Rattle.books_schema.specs.Growing.{Makes, AreMade, grown, IsGrown}
-use Rattle.books_schema.specs.declared.layouts.TableLayout.{TableLayout}
+use Rattle.books_schema.proofs.Words.{◌≡◌, ℕ, false, None, List, [], ◌∷◌, ◌++◌, Ok, refl, sym, ap, subst, ◌∙◌, append_assoc, AllByRecursion, CreateTable, created, next_tree, Tally, lacks_sequence, Schema, Table, Database, Trees, State, Writes, ExecutesInside, runs_as, all-append, all_both, front, went, same_value, table_at, Makes, AreMade, grown, IsGrown, TableLayout}
 
 back : {X : Type 0} (P : X → Type 0) (xs ys : List X) → AllByRecursion P (xs ++ ys) → AllByRecursion P ys
 back P [] ys h = h

@@ -1,27 +1,7 @@
 -- What a statement that makes an index leaves of the books.
-use Rattle.std.proofs.Common.{◌≡◌, IsTrue, inl, inr, ℕ, ◌+◌, Bool, true, false, is_some, None, Some, slice_get, List, [], ◌∷◌, ◌++◌, Ok, Err, Result, OnErr, refl, sym, ap, subst, ◌∙◌}
-use Rattle.std.specs.List.{AllByRecursion, list_all, position_from}
-use Rattle.std.proofs.lemmas.Bool.{cases_Bool, and_parts}
-use Rattle.sqlite.specs.Command.TheVariants.{CreateIndex, Nothing}
-use Rattle.sqlite.specs.Change.{indexed, next_tree}
-use Rattle.sqlite.specs.Does.{Tally, AtPlace, Defines, MakesIndex}
-use Rattle.sqlite.specs.Schema.{Schema}
-use Rattle.sqlite.specs.Table.{Table}
-use Rattle.sqlite_schema.specs.declared.schema.Index.{Index}
-use Rattle.sqlite_schema.specs.Names.{same_name, index_named}
-use Rattle.sqlite.specs.Effect.{Database}
-use Rattle.sqlite_catalog.specs.Listing.{IsSound}
+use Rattle.books_schema.proofs.Words.{◌≡◌, IsTrue, inl, inr, ℕ, ◌+◌, Bool, true, false, is_some, None, Some, slice_get, List, [], ◌∷◌, ◌++◌, Ok, Err, Result, OnErr, refl, sym, ap, subst, ◌∙◌, AllByRecursion, list_all, position_from, cases_Bool, and_parts, CreateIndex, Nothing, indexed, next_tree, Tally, AtPlace, Defines, MakesIndex, Schema, Table, Index, same_name, index_named, Database, IsSound, State, mode_of, Writes, ExecutesInside, KeepsCommit, IsPlain, command_of, statement_of, runs_as, all_both, the_tables, schema_with, is_harmless, HasTables, IsRows, IsReady, Goes, ChangesNone, front, tables_same, typed_same, went, same_value, goes_then, HasIndex, KeepsRows, IsIndexed, plan, Indexes}
 use Rattle.sqlite.specs.Listing.{understood}
-use Rattle.sqlite.specs.State.{State, mode_of, Writes, ExecutesIn, ExecutesInside, KeepsCommit}
-use Rattle.sqlite.proofs.Callers.{IsPlain, command_of, statement_of, runs_as}
-use Rattle.sqlite_keyed.proofs.ListLemmas.{all_both}
-use Rattle.table_words.specs.Schema.{the_tables, schema_with, is_harmless, HasTables}
-use Rattle.table_words.specs.Rows.{IsRows}
-use Rattle.table_words.specs.Steps.{IsReady, Goes, ChangesNone}
-use Rattle.table_words.proofs.StepLemmas.{front, tables_same, typed_same}
-use Rattle.table_words.proofs.WriteLemmas.{went, same_value}
-use Rattle.table_words.proofs.CallLemmas.{goes_then}
-use Rattle.books_schema.specs.Indexing.{HasIndex, KeepsRows, IsIndexed, plan, Indexes}
+use Rattle.sqlite.specs.State.{ExecutesIn}
 
 found_before : (p : Index → Bool) (at : ℕ) (xs : List Index) (x : Index) → is_some (position_from p at xs) ≡ true → is_some (position_from p at (xs ++ x ∷ [])) ≡ true
 found_before p at [] x h = absurd cc

@@ -1,25 +1,8 @@
 -- What the texts that make the indexes mean in any schema of books.
-use Rattle.std.proofs.Common.{◌≡◌, inl, inr, ℕ, List, [], ◌∷◌, codes, refl, true, false, None, Ok, Result, sym, subst, Bool, Option}
-use Rattle.std.specs.Prelude.{if◌then◌else◌, is_some}
-use Rattle.std.specs.Option.{option_or}
-use Rattle.std.proofs.lemmas.Bool.{cases_Bool}
-use Rattle.sqlite.specs.Schema.{Schema}
-use Rattle.sqlite_schema.specs.declared.command.Command.{Command}
-use Rattle.sqlite_schema.specs.declared.command.Returning.{Returning}
-use Rattle.sqlite.specs.Command.TheVariants.{CreateIndex, Nothing}
+use Rattle.books_schema.proofs.Words.{◌≡◌, inl, inr, ℕ, List, [], ◌∷◌, codes, refl, true, false, None, Ok, Result, sym, subst, Bool, Option, if◌then◌else◌, is_some, option_or, cases_Bool, Schema, Command, Returning, CreateIndex, Nothing, misses_table, compiled, is_reserved, and_then, Compiled, CompileError, Exists, table_named, index_named, view_named, schema_with, staged_table, reserved_table, Index, plain, MakesOrFinds, Indexes, STAGED_BY_GTIN, RESERVED_BY_GTIN}
 use Rattle.sqlite_tied.specs.Compute.{everything}
-use Rattle.sqlite.specs.Listing.{understood, misses_table}
-use Rattle.sqlite_resolve.specs.Compile.{compiled, creates, is_reserved}
-use Rattle.sqlite_resolve.specs.Lowering.{and_then}
-use Rattle.sqlite_resolve.specs.declared.compiled.Compiled.{Compiled}
-use Rattle.sqlite_resolve.specs.declared.error.CompileError.{CompileError}
-use Rattle.sqlite_resolve.specs.declared.error.CompileError.TheVariants.{Exists}
-use Rattle.sqlite_schema.specs.Names.{table_named, index_named, view_named}
-use Rattle.table_words.specs.Schema.{schema_with, staged_table, reserved_table}
-use Rattle.sqlite_schema.specs.declared.schema.Index.{Index}
-use Rattle.sqlite_value.specs.Keys.{plain}
-use Rattle.books_schema.specs.Indexing.{MakesOrFinds, Indexes}
-use Rattle.books_schema.specs.declared.indexing.TheConstants.{STAGED_BY_GTIN, RESERVED_BY_GTIN}
+use Rattle.sqlite.specs.Listing.{understood}
+use Rattle.sqlite_resolve.specs.Compile.{creates}
 
 -- the index that a CREATE INDEX makes of these places of the table
 abbrev plain_index : List ℕ → ℕ → List ℕ → Index

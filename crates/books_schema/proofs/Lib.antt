@@ -1,8 +1,10 @@
+mod Words
 pub mod Texts
 pub mod EndLemmas
 pub mod GrowLemmas
 pub mod CreateLemmas
 pub mod OpenLemmas
+pub mod NeverRun
 pub mod IndexTexts
 pub mod IndexLemmas
 pub mod SettleLemmas

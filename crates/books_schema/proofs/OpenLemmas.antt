@@ -1,32 +1,7 @@
 -- The rowids of each table rise in what is committed, and what is left of a connection that was not found open.
-use Rattle.std.proofs.Common.{◌≡◌, ◌⊎◌, ℕ, ◌≤◌, List, None, IsTrue, inl, inr, sym, ap, subst, ◌∙◌, arith}
+use Rattle.books_schema.proofs.Words.{◌≡◌, ◌⊎◌, ℕ, ◌≤◌, List, None, IsTrue, inl, inr, sym, ap, subst, ◌∙◌, arith, Error, Ghosts, IsQuiet, doubt, IsUndone, Held, state, State, HasCleanDisk, IsUnchanged, IsRolledBack, Row, Schema, AllByRecursion, View, IsOrdered, IsShaped, Database, IsDatabase, catalog_tree, IsListed, Lists, IsSound, table_shape, objects_rise, lists_once, all_from, the_tables, schema_with, HasTables, IsRows, IsReady, front, IsOlderReady, IsInOrder, IsOlderSchema, HasSchema, IsReadyAs, Tells, TellTables, IsClosed, Found, Newest, Older, OlderBooks}
 use Rattle.sqlite_trees.specs.Tree.{Trees}
-use Rattle.sqlite.specs.declared.error.Error.{Error}
-use Rattle.sqlite_trees.specs.declared.store.Store.{Ghosts}
-use Rattle.sqlite_trees.specs.View.{IsQuiet, doubt, IsRolledBack as IsUndone}
-use Rattle.sqlite.specs.Held.{Held, state}
-use Rattle.sqlite.specs.State.{State, HasCleanDisk, IsNotRun, IsUnchanged, IsRolledBack}
-use Rattle.sqlite_value.specs.Order.{Row}
-use Rattle.sqlite.specs.Schema.{Schema}
-use Rattle.std.specs.List.{AllByRecursion}
-use Rattle.sqlite.specs.View.{View, IsOrdered, IsShaped}
-use Rattle.sqlite.specs.Effect.{Database, IsDatabase}
-use Rattle.sqlite_trees.specs.Objects.{catalog_tree, IsListed}
-use Rattle.sqlite_catalog.specs.Listing.{Lists, IsSound}
-use Rattle.sqlite_catalog.proofs.LayoutLemmas.{table_shape, objects_rise}
-use Rattle.sqlite_catalog.proofs.ReadLemmas.{lists_once}
-use Rattle.sqlite_rules.proofs.ListLemmas.{all_from}
-use Rattle.table_words.specs.Schema.{the_tables, schema_with, HasTables}
-use Rattle.table_words.specs.Rows.{IsRows}
-use Rattle.table_words.specs.Steps.{IsReady}
-use Rattle.table_words.proofs.StepLemmas.{front}
-use Rattle.books_schema.specs.Bringing.{IsOlderReady}
-use Rattle.books_schema.specs.Orderly.{IsInOrder}
-use Rattle.books_schema.specs.Older.{IsOlderSchema}
-use Rattle.books_schema.specs.Opening.{HasSchema, IsReadyAs, Tells, TellTables, IsClosed}
-use Rattle.books_schema.specs.declared.ready_connection.Found.{Found}
-use Rattle.books_schema.specs.declared.ready_connection.Found.TheVariants.{Newest, Older}
-use Rattle.books_schema.specs.declared.older.OlderBooks.{OlderBooks}
+use Rattle.sqlite.specs.State.{IsNotRun}
 
 pub ready_over : (v : View) (db : Database) → IsListed (v.trees catalog_tree) v.shape v.reals → IsOrdered v.shape v.trees → IsDatabase db → db.trees ≡ v.trees → HasTables db.schema → IsReady db
 ready_over v db listed ordered sound trees has =

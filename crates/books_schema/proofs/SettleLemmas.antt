@@ -1,26 +1,5 @@
 -- The row of `meta`, read and put under the newest number, and making the indexes, in one transaction.
-use Rattle.std.proofs.Common.{◌≡◌, ◌⊎◌, inl, inr, ℕ, ℤ, true, List, [], ◌∷◌, Result, Ok, Err, Option, None, Some, OnOk, IfOk, IfErr, refl, sym, ap, subst, ◌∙◌}
-use Rattle.std.specs.Prelude.{◌↔◌, option_map, find}
-use Rattle.std.specs.List.{AllByRecursion}
-use Rattle.std.specs.Result.{IsErrAnd, IsOkAnd}
-use Rattle.commands.specs.declared.limits.TheConstants.{SCHEMA_VERSION}
-use Rattle.commands.specs.declared.rows.MetaRow.{MetaRow}
-use Rattle.sqlite_keyed.proofs.ListLemmas.{all_both, all_weaker}
-use Rattle.sqlite_trees.specs.declared.store.Store.{Ghosts}
-use Rattle.sqlite.specs.Effect.{Database}
-use Rattle.sqlite.specs.Held.{Held, state}
-use Rattle.sqlite.specs.State.{State, IsUnchanged}
-use Rattle.sqlite.specs.Table.{Table}
-use Rattle.sqlite.specs.Tree.{Trees}
-use Rattle.table_words.specs.Schema.{the_tables}
-use Rattle.table_words.specs.Steps.{IsReady, Goes}
-use Rattle.table_words.specs.Typed.{is_meta_at, tables_in, with_meta, meta_rows_rows, meta_at, AreTyped, AreTypedAt}
-use Rattle.table_words.specs.declared.error.TableFault.{TableFault}
-use Rattle.table_words.specs.declared.error.TableFault.TheVariants.{Foreign as TableForeign}
-use Rattle.table_words.proofs.StepLemmas.{tables_same, typed_same}
-use Rattle.books_schema.specs.Indexing.{KeepsRows, IsIndexed}
-use Rattle.books_schema.specs.Settling.{HasRow, HasDayAt, IsNumbered, Numbers}
-use Rattle.books_schema.specs.declared.settling.TheConstants.{THIRD}
+use Rattle.books_schema.proofs.Words.{◌≡◌, ◌⊎◌, inl, inr, ℕ, ℤ, true, List, [], ◌∷◌, Result, Ok, Err, Option, None, Some, OnOk, IfOk, IfErr, refl, sym, ap, subst, ◌∙◌, ◌↔◌, option_map, find, AllByRecursion, IsErrAnd, IsOkAnd, SCHEMA_VERSION, MetaRow, all_both, all_weaker, Ghosts, Database, Held, state, State, IsUnchanged, Table, Trees, the_tables, IsReady, Goes, is_meta_at, tables_in, with_meta, meta_rows_rows, meta_at, AreTyped, AreTypedAt, TableFault, Foreign as TableForeign, tables_same, typed_same, KeepsRows, IsIndexed, HasRow, HasDayAt, IsNumbered, Numbers, THIRD}
 
 pub begun_state : {S : Type 0} (g : Ghosts S) (old begun : Held S) → begun ≡ record old { in_transaction = true } → state g begun ≡ record (state g old) { in_transaction = true }
 begun_state g old begun is = ap (state g) is

@@ -1,13 +1,7 @@
 -- What each text makes of the schema before it.
-use Rattle.std.proofs.Common.{refl, ◌≡◌, true}
-use Rattle.std.specs.List.{list_all}
+use Rattle.books_schema.proofs.Words.{refl, ◌≡◌, true, list_all, Schema, created, schema_0, is_harmless, meta_table, items_table, bins_table, lots_table, recalls_table, stock_table, orders_table, lines_table, staged_table, reserved_table, shipments_table, shiplines_table, cards_table, repeats_table, least_table, urgents_table, Makes, CREATE_META, CREATE_ITEMS, CREATE_BINS, CREATE_LOTS, CREATE_RECALLS, CREATE_STOCK, CREATE_ORDERS, CREATE_LINES, CREATE_STAGED, CREATE_RESERVED, CREATE_SHIPMENTS, CREATE_SHIPLINES, CREATE_CARDS, CREATE_REPEATS, CREATE_LEAST, CREATE_URGENTS}
 use Rattle.sqlite_tied.specs.Compute.{everything}
 use Rattle.sqlite.specs.Listing.{understood}
-use Rattle.sqlite.specs.Schema.{Schema}
-use Rattle.sqlite.specs.Change.{created}
-use Rattle.table_words.specs.Schema.{schema_0, is_harmless, meta_table, items_table, bins_table, lots_table, recalls_table, stock_table, orders_table, lines_table, staged_table, reserved_table, shipments_table, shiplines_table, cards_table, repeats_table, least_table, urgents_table}
-use Rattle.books_schema.specs.Growing.{Makes}
-use Rattle.books_schema.specs.declared.layouts.TheConstants.{CREATE_META, CREATE_ITEMS, CREATE_BINS, CREATE_LOTS, CREATE_RECALLS, CREATE_STOCK, CREATE_ORDERS, CREATE_LINES, CREATE_STAGED, CREATE_RESERVED, CREATE_SHIPMENTS, CREATE_SHIPLINES, CREATE_CARDS, CREATE_REPEATS, CREATE_LEAST, CREATE_URGENTS}
 
 pub meta_made : Makes schema_0 CREATE_META.now (meta_table 0)
 unfolding understood everything

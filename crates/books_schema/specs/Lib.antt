@@ -1,6 +1,7 @@
 pub mod Ending
 pub mod Creation
 pub mod Opening
+pub mod Causes
 pub mod Layouts
 pub mod Growing
 pub mod Indexing

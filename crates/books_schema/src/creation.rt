@@ -16,10 +16,10 @@ use crate::ending::finish;
 use crate::indexing::make_indexes;
 use crate::steps::{STEPS, run_steps};
 use commands::{BinRow, MetaRow};
-use goods_tables::bins::put_bin;
-use goods_tables::meta::put_meta;
 use sqlite::{Alter, Connection, Error, Transaction};
 use table_words::error::TableFault;
+use tables::bins::put_bin;
+use tables::meta::put_meta;
 
 /// Makes the tables.
 fn create_tables<S: Alter>(tx: &mut Transaction<'_, S>) -> Result<(), Error>

@@ -15,8 +15,3 @@ pub mod older;
 pub mod ready_connection;
 pub mod settling;
 mod steps;
-
-pub use goods_tables as goods;
-pub use history_tables as history;
-pub use order_tables as orders;
-pub use table_words as words;

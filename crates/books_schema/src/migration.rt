@@ -19,15 +19,15 @@ use crate::older::OlderBooks;
 use crate::settling::meta_row_at;
 use crate::steps::{STEPS, run_steps};
 use commands::{ItemRow, LeastRow, MetaRow};
-use goods_tables::items::Items;
-use goods_tables::least::Least;
-use goods_tables::meta::raise_meta;
 use keyed_rows::reading::{All, seek};
 use keyed_rows::rows::add_all;
 use label::BusinessDay;
 use sqlite::{Alter, Connection, Error, Transaction};
 use std::alloc::{AllocError, Global};
 use table_words::error::TableFault;
+use tables::items::Items;
+use tables::least::Least;
+use tables::meta::raise_meta;
 use values::LeastDays;
 
 /// Makes the tables that these books lack behind those that they have, once no index of the books is in their way.

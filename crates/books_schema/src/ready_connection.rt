@@ -8,6 +8,7 @@ ghost use Rattle.sqlite_trees.specs.View.{doubt};
 ghost use Rattle.sqlite.specs.declared.error.ErrorCode.TheVariants.{OutOfMemory};
 ghost use Rattle.sqlite.specs.declared.error.Error.TheVariants.{SqliteFailure};
 ghost use Rattle.table_words.specs.declared.error.TableFault.TheVariants.{Foreign, Store};
+ghost use Rattle.books_schema.specs.Causes.{IsOfFault, HasCause};
 ghost use Rattle.books_schema.specs.Indexing.{HasIndexes};
 ghost use Rattle.books_schema.specs.Opening.{HasSchema, IsOfNone, IsReadyAs, HasDayIn, AreReadTyped, ComesTo, IsCome, IsLeftAs, TellTables, IsLeft, IsOpenAndSettled};
 ghost use Rattle.books_schema.specs.declared.ready_connection.Found.{Found};
@@ -47,6 +48,7 @@ fn judge(alloc: Global, schema: &Schema) -> Result<Found, TableFault>
     ensures found { IfOk result (λ found. HasSchema found schema.now) }
     ensures foreign { IfErr result (λ e. e ≡ Foreign → IsOfNone schema.now) }
     ensures other { IsOfNone schema.now → IsErrAnd result (λ e. (e ≡ Foreign) ⊎ (e ≡ Store (SqliteFailure OutOfMemory))) }
+    ensures cause { IfErr result (λ e. (e ≡ Foreign) ⊎ (e ≡ Store (SqliteFailure OutOfMemory))) }
 {
     if has_tables(alloc, schema)? {
         return Ok(Found::Newest);
@@ -91,6 +93,7 @@ fn find_open<S: Alter>(conn: &mut Connection<S>) -> Result<(), Error>
     ensures clean { doubt (state S.Store conn.old).is_clean ≤ doubt (state S.Store conn.new).is_clean }
     ensures shield { (state S.Store conn.old).IsShielded → (state S.Store conn.new).IsShielded }
     ensures crash { HasCleanDisk (state S.Store conn.new) → (db : Trees) → (state S.Store conn.new).may_leave db → (state S.Store conn.old).may_leave db }
+    ensures cause { HasCleanDisk (state S.Store conn.new) → IsTrue (state S.Store conn.old).is_open → IfErr result (IsOfFault (state S.Store conn.old) (state S.Store conn.new)) }
 {
     conn.set_step_limit(None);
     conn.prepare(NEVER_RUN)?;
@@ -118,6 +121,7 @@ pub fn ready<S: Orderly + Drop>(
     ensures other { IsOfNone (state S.Store conn).now.schema
         → IsErrAnd result (λ e. (e.0 ≡ Leftover.Connection conn) × ((e.1 ≡ Foreign) ⊎ (e.1 ≡ Store (SqliteFailure OutOfMemory)))) }
     ensures left { IfErr result (λ e. IsLeft S.Store conn e.0) }
+    ensures cause { IfErr result (λ e. HasCause S.Store conn e.0 e.1) }
 {
     // Outside a transaction the connection shows what is committed.
     let _outside = conn.is_autocommit();

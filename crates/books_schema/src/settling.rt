@@ -12,11 +12,11 @@ ghost use Rattle.books_schema.specs.Settling.{HasRow, HasDayAt, HasDay, IsNumber
 use crate::ending::finish;
 use crate::indexing::make_indexes;
 use commands::MetaRow;
-use goods_tables::meta::{NEWEST, meta_rows_at, raise_meta};
 use label::BusinessDay;
 use sqlite::{Alter, Connection, Transaction};
 use std::alloc::Global;
 use table_words::error::TableFault;
+use tables::meta::{NEWEST, meta_rows_at, raise_meta};
 
 /// The number of the schema before the newest, which has the same tables.
 const THIRD: u32 = 3;

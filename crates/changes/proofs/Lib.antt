@@ -1,2 +1,6 @@
+mod Words
+pub mod GoingIn
+pub mod ManyAdded
+pub mod Parts
 pub mod TableWritten
 pub mod ChangeWritten

@@ -1,23 +1,16 @@
 -- What the rows of one table make of its look-up, written one after another.
-use Rattle.std.proofs.Common.{◌≡◌, Bool, true, false, List, [], ◌∷◌, refl, sym, ap, ◌∙◌}
-use Rattle.std.specs.Prelude.{◌||◌, not, if◌then◌else◌, Option, Some, None, find}
-use Rattle.std.specs.List.{list_any}
-use Rattle.commands.specs.Tables.{Tables}
-use Rattle.machine.specs.KeyedRows.{no_two}
-use Rattle.rules.specs.Slices.{unless_put, changed, added}
-use Rattle.machine.proofs.Tests.{and_both, or_none, not_true}
-use Rattle.keyed_rows.specs.Writes.{each_written}
-use Rattle.changes.specs.Written.{rows_written}
+use Rattle.changes.proofs.Words.{◌≡◌, ℕ, Bool, true, false, List, [], ◌∷◌, refl, sym, ap, subst, ◌∙◌, ◌||◌, not, if◌then◌else◌, Option, Some, None, find, list_any, Tables, no_two, unless_put, unless_emptied, changed, and_both, or_none, not_true, each_written, with_row, without_row, Change, TableName, Staged, family, Key, described, look, over, puts, drops, stage_emptied, emptied, rows_written, table_written}
+use Rattle.whole_tables.specs.Family.{Row}
 
 -- ---- one key
 
 module _ {R : Type 0} (test : R → Bool) where
   -- what is found after rows are put, and after rows are dropped
-  abbrev all_put : List R → Option R → Option R
+  abbrev pub all_put : List R → Option R → Option R
   all_put [] old = old
   all_put (r ∷ rs) old = all_put rs (if test r then Some r else old)
 
-  abbrev all_dropped : List R → Option R → Option R
+  abbrev pub all_dropped : List R → Option R → Option R
   all_dropped [] old = old
   all_dropped (r ∷ rs) old = all_dropped rs (if test r then None else old)
 
@@ -62,7 +55,7 @@ module _ {R : Type 0} (test : R → Bool) where
         ] refl
 
     -- dropping first and then putting makes the change
-    all_changed : (puts drops : List R) (old : Option R) → no_two same puts ≡ true → all_put puts (all_dropped drops old) ≡ changed test puts drops old
+    pub all_changed : (puts drops : List R) (old : Option R) → no_two same puts ≡ true → all_put puts (all_dropped drops old) ≡ changed test puts drops old
     all_changed puts drops old once =
         all_put_is puts (all_dropped drops old) once
         ∙ ap (λ x. unless_put (find test puts) false x) (all_dropped_is drops old)
@@ -70,41 +63,58 @@ module _ {R : Type 0} (test : R → Bool) where
 
 -- ---- one table
 
-module _ {R K : Type 0} (get : Tables → K → Option R) (set : (K → Option R) → Tables → Tables)
-    (got : (f : K → Option R) (t : Tables) → get (set f t) ≡ f) (again : (f g : K → Option R) (t : Tables) → set f (set g t) ≡ set f t) (own : (t : Tables) → set (get t) t ≡ t)
-    (test : K → R → Bool) where
-  abbrev put : R → Tables → Tables
-  put r t = set (λ k. if test k r then Some r else get t k) t
+-- whether this is the row under the key
+abbrev pub is_at : (n : TableName) → Key n → Row n → Bool
+is_at n k r = (described n).same k ((described n).key r)
 
-  abbrev drop : R → Tables → Tables
-  drop r t = set (λ k. if test k r then None else get t k) t
+abbrev pub are_same : (n : TableName) → Row n → Row n → Bool
+are_same n r s = is_at n ((described n).key r) s
 
-  puts_are : (rows : List R) (t : Tables) → each_written put rows t ≡ set (λ k. all_put (test k) rows (get t k)) t
-  puts_are [] t = sym (own t)
-  puts_are (r ∷ rs) t =
-      puts_are rs (put r t)
-      ∙ ap (λ f. set (λ k. all_put (test k) rs (f k)) (put r t)) (got (λ k. if test k r then Some r else get t k) t)
-      ∙ again (λ k. all_put (test k) rs (if test k r then Some r else get t k)) (λ k. if test k r then Some r else get t k) t
+pub are_met : (n : TableName) (k : Key n) (r s : Row n) → is_at n k r ≡ true → is_at n k s ≡ true → are_same n r s ≡ true
+are_met n k r s p q = subst (λ (x : Key n). is_at n x s ≡ true) ((family n).laws.one_key k ((described n).key r) p) q
 
-  drops_are : (rows : List R) (t : Tables) → each_written drop rows t ≡ set (λ k. all_dropped (test k) rows (get t k)) t
-  drops_are [] t = sym (own t)
-  drops_are (r ∷ rs) t =
-      drops_are rs (drop r t)
-      ∙ ap (λ f. set (λ k. all_dropped (test k) rs (f k)) (drop r t)) (got (λ k. if test k r then None else get t k) t)
-      ∙ again (λ k. all_dropped (test k) rs (if test k r then None else get t k)) (λ k. if test k r then None else get t k) t
+puts_are : (n : TableName) (rows : List (Row n)) (t : Tables) → each_written (with_row (described n)) rows t ≡ over n (λ k. all_put (is_at n k) rows (look n t k)) t
+puts_are n [] t = sym ((family n).laws.same_set t)
+puts_are n (r ∷ rs) t =
+    let f : Key n → Option (Row n) = λ k. if is_at n k r then Some r else look n t k in
+    puts_are n rs (over n f t)
+    ∙ ap (λ g. over n (λ k. all_put (is_at n k) rs (g k)) (over n f t)) ((family n).there f t)
+    ∙ (family n).last (λ k. all_put (is_at n k) rs (f k)) f t
 
-  -- the rows that are put change the table as a change says
-  pub table_put : (same : R → R → Bool) (meets : (k : K) (r s : R) → test k r ≡ true → test k s ≡ true → same r s ≡ true) (puts : List R) (t : Tables) → no_two same puts ≡ true
-      → each_written put puts t ≡ set (λ k. added (test k) puts (get t k)) t
-  table_put same meets puts t once = puts_are puts t ∙ ap (λ f. set f t) (λ i k. all_put_is (test k) same (meets k) puts (get t k) once i)
+drops_are : (n : TableName) (rows : List (Row n)) (t : Tables) → each_written (λ r. without_row (described n) ((described n).key r)) rows t ≡ over n (λ k. all_dropped (is_at n k) rows (look n t k)) t
+drops_are n [] t = sym ((family n).laws.same_set t)
+drops_are n (r ∷ rs) t =
+    let f : Key n → Option (Row n) = λ k. if is_at n k r then None else look n t k in
+    drops_are n rs (over n f t)
+    ∙ ap (λ g. over n (λ k. all_dropped (is_at n k) rs (g k)) (over n f t)) ((family n).there f t)
+    ∙ (family n).last (λ k. all_dropped (is_at n k) rs (f k)) f t
 
-  -- so do those that are put and dropped
-  pub table_written : (same : R → R → Bool) (meets : (k : K) (r s : R) → test k r ≡ true → test k s ≡ true → same r s ≡ true) (puts drops : List R) (t : Tables) → no_two same puts ≡ true
-      → rows_written put drop puts drops t ≡ set (λ k. changed (test k) puts drops (get t k)) t
-  table_written same meets puts drops t once =
-      let left : K → Option R = λ k. all_dropped (test k) drops (get t k) in
-      ap (each_written put puts) (drops_are drops t)
-      ∙ puts_are puts (set left t)
-      ∙ ap (λ f. set (λ k. all_put (test k) puts (f k)) (set left t)) (got left t)
-      ∙ again (λ k. all_put (test k) puts (left k)) left t
-      ∙ ap (λ f. set f t) (λ i k. all_changed (test k) same (meets k) puts drops (get t k) once i)
+-- what is there before rows are listed
+abbrev pub left : Change → (n : TableName) → (Key n → Option (Row n)) → Key n → Option (Row n)
+left c Staged f k = unless_emptied c.dropped.stage k.0 (f k)
+left c n f k = f k
+
+stage_is : (stage : Option (List ℕ)) (t : Tables) → stage_emptied stage t ≡ record t { staged = λ o l. unless_emptied stage o (t.staged o l) }
+stage_is None t = refl
+stage_is (Some order) t = refl
+
+emptied_is : (c : Change) (n : TableName) (t : Tables) → emptied c n t ≡ over n (left c n (look n t)) t
+emptied_is c Staged t = stage_is c.dropped.stage t
+emptied_is c n t = sym ((family n).laws.same_set t)
+
+-- the look-up after a change
+abbrev pub written : Change → (n : TableName) → (Key n → Option (Row n)) → Key n → Option (Row n)
+written c n f k = all_put (is_at n k) (puts c n) (all_dropped (is_at n k) (drops c n) (left c n f k))
+
+pub table_is : (c : Change) (n : TableName) (t : Tables) → table_written c n t ≡ over n (written c n (look n t)) t
+table_is c n t =
+    let f : Key n → Option (Row n) = left c n (look n t) in
+    let g : Key n → Option (Row n) = λ k. all_dropped (is_at n k) (drops c n) (f k) in
+    let one : Tables = over n f t in
+    let two : Tables = over n g one in
+    ap (λ u. rows_written (with_row (described n)) (λ r. without_row (described n) ((described n).key r)) (puts c n) (drops c n) u) (emptied_is c n t)
+    ∙ ap (each_written (with_row (described n)) (puts c n)) (drops_are n (drops c n) one ∙ ap (λ h. over n (λ k. all_dropped (is_at n k) (drops c n) (h k)) one) ((family n).there f t))
+    ∙ puts_are n (puts c n) two
+    ∙ ap (λ h. over n (λ k. all_put (is_at n k) (puts c n) (h k)) two) ((family n).there g one)
+    ∙ (family n).last (written c n (look n t)) g one
+    ∙ (family n).last (written c n (look n t)) f t

@@ -6,10 +6,10 @@ ghost use Rattle.keyed_rows.specs.Writes.{Writes, each_written};
 ghost use Rattle.keyed_rows.specs.Described.{with_row, without_row};
 ghost use Rattle.changes.specs.Written.{rows_written};
 
+use crate::adding::{AddedMany, MANY, add_many};
 use commands::Listed;
 use keyed_rows::rows::{add_all, drop_all, put_all};
 use keyed_rows::table::{Changing, Losing, Table};
-use many_rows::adding::{AddedMany, MANY, add_many};
 use sqlite::{Alter, Transaction};
 use std::alloc::Global;
 use table_words::error::TableFault;

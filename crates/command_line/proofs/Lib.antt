@@ -1,3 +1,4 @@
 pub mod Printing
 pub mod Ending
 mod LineRead
+mod Telling

@@ -1,5 +1,5 @@
 -- What is told of a line of a history that does not fit the books.
-use Rattle.std.specs.Prelude.{ℕ, List, ◌++◌, codes, decimal}
+use Rattle.std.specs.Prelude.{ℕ, List, codes, decimal}
 use Rattle.commands.specs.Refusals.{refusal_code}
 use Rattle.command_line.specs.Audits.{act_place, spaced}
 use Rattle.command_line.specs.declared.apply_fault.ApplyFault.{ApplyFault}

@@ -1,12 +1,17 @@
 -- How a line ends: what its words come to, and what the side of the books told of its work and left.
-use Rattle.std.specs.Prelude.{◌≡◌, ◌⊎◌, ℕ, ℤ, List, IsTrue, Option, Some, None, option_map, Result, Ok, Err}
+use Rattle.std.specs.Prelude.{◌≡◌, ◌⊎◌, ℕ, ℤ, List, [], IsTrue, Option, Some, None, option_map, Result, Ok, Err}
 use Rattle.std.specs.Io.KnownBytes.{Keeps}
+use Rattle.clap.specs.Faults.{fault_of}
+use Rattle.clap.specs.Kinds.{HasKind}
+use Rattle.clap.specs.Walk.{Text}
 use Rattle.clap.specs.declared.error.Error.{Error}
 use Rattle.values.specs.Values.{is_gtin, is_lot_text}
 use Rattle.values.specs.declared.lot.LotId.{LotId}
 use Rattle.label.specs.Days.{is_business_day, parsed_day}
 use Rattle.command_line.specs.Lines.{IsFaultOfWords, IsNoBusinessDay, IsPrinted, IsRefused}
 use Rattle.command_line.specs.Statuses.{IsStatusOf, IsOutputOf, IsToldOf}
+use Rattle.command_line.specs.Program.{program_app}
+use Rattle.command_line.specs.Words.{IsLineRead}
 use Rattle.command_line.specs.declared.fault.Fault.{Fault}
 use Rattle.command_line.specs.declared.fault.Fault.TheVariants.{Value, Io}
 use Rattle.command_line.specs.declared.running.Work.{Work}
@@ -70,24 +75,28 @@ module _ {L : Type 0} (works : Works L) (old new log_old log_new : Option (List 
   IsEndOf (Label day text) end left = IsWithoutBooks left × IsLabelTold day.now text.now old new end
   IsEndOf Unknown end left = IsNoWork end left
 
--- the words are no line
-abbrev pub IsNoLine : Result Unit Fault → Type 0
-IsNoLine end = (error : Error) × (fault : Fault) × IsFaultOfWords error fault × (end ≡ Err fault)
+-- the words are no line, for a reason of those that `clap` has, or there was no memory
+abbrev pub IsNoLine : (words : List Text) → Result Unit Fault → Type 0
+IsNoLine words end = (error : Error) × (fault : Fault) × HasKind (fault_of program_app words) error × IsFaultOfWords error fault × (end ≡ Err fault)
 
-module _ {L : Type 0} (works : Works L) (old new log_old log_new : Option (List ℕ)) where
-  -- a line was read, which ended so, or was done and its output could not be flushed; what it printed stays
+-- `clap` finds no fault in the words, and they are this line
+abbrev pub IsLineOfWords : (words : List Text) → Line → Type 0
+IsLineOfWords words line = (fault_of program_app words ≡ []) × IsLineRead words line
+
+module _ {L : Type 0} (works : Works L) (words : List Text) (old new log_old log_new : Option (List ℕ)) where
+  -- the line that they are ended so, or was done and its output could not be flushed; what it printed stays
   abbrev pub IsLineDone : Result Unit Fault → Option L → Type 0
   IsLineDone end left =
-      (line : Line) × (printed : Option (List ℕ)) × Keeps printed new
+      (line : Line) × IsLineOfWords words line × (printed : Option (List ℕ)) × Keeps printed new
       × (IsEndOf works old printed log_old log_new line end left
       ⊎ ((done : Unit) × IsEndOf works old printed log_old log_new line (Ok done) left × (end ≡ Err Io)))
 
   -- how the words of a line may end
   abbrev pub IsEnded : Result Unit Fault → Option L → Type 0
-  IsEnded end left = (IsNoLine end × IsWithoutBooks works old new log_old log_new left × (new ≡ old)) ⊎ IsLineDone end left
+  IsEnded end left = (IsNoLine words end × IsWithoutBooks works old new log_old log_new left × (new ≡ old)) ⊎ IsLineDone end left
 
 -- the words came to such an end, and the status and what is written then are those of it
-abbrev pub IsRun : {L : Type 0} → Works L → (old new log_old log_new : Option (List ℕ)) → ℕ → Option L → Type 0
-IsRun works old new log_old log_new status left =
-    (end : Result Unit Fault) × (printed : Option (List ℕ)) × (logged : Option (List ℕ)) × IsEnded works old printed log_old logged end left
+abbrev pub IsRun : {L : Type 0} → Works L → (words : List Text) → (old new log_old log_new : Option (List ℕ)) → ℕ → Option L → Type 0
+IsRun works words old new log_old log_new status left =
+    (end : Result Unit Fault) × (printed : Option (List ℕ)) × (logged : Option (List ℕ)) × IsEnded works words old printed log_old logged end left
     × IsStatusOf end status × IsOutputOf end printed new status × IsToldOf end logged log_new

@@ -3,4 +3,5 @@ pub mod Applying
 pub mod Lines
 pub mod Statuses
 pub mod Ends
+pub mod Program
 pub mod Words

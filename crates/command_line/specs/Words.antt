@@ -1,11 +1,12 @@
 -- The line that words are, as `clap` reads them.
-use Rattle.std.specs.Prelude.{◌≡◌, ◌⊎◌, ℕ, List, Bool, true, false, Option, Some, None, option_map, codes}
+use Rattle.std.specs.Prelude.{◌≡◌, ◌⊎◌, ℕ, List, Bool, true, false, Some, None, option_map, codes}
 use Rattle.std.specs.Str.Parse.{digits_value, without_leading_plus}
-use Rattle.clap.specs.Matches.{found_of, first_value, one_text}
-use Rattle.clap.specs.Simple.{subcommand_rows_of}
-use Rattle.clap.specs.Walk.{rows_of}
+use Rattle.clap.specs.Matches.{first_value, one_text}
+use Rattle.clap.specs.Simple.{subcommand_of, subcommand_rows_of}
+use Rattle.clap.specs.Walk.{Text, rows_of}
 use Rattle.clap.specs.declared.parser.matches.ArgMatches.{ArgMatches}
 use Rattle.clap.specs.declared.parser.matches.Found.{Found}
+use Rattle.command_line.specs.Program.{program_app}
 use Rattle.command_line.specs.declared.words.Line.{Line}
 use Rattle.command_line.specs.declared.words.Line.TheVariants.{Label, Init, Serve, Import, Card, Notice, History, Audit, Apply, Unknown}
 
@@ -40,3 +41,7 @@ IsNamed name found Unknown = Unit {0}
 -- the line is that of the subcommand that was read
 abbrev pub IsLineOf : ArgMatches → Line → Type 0
 IsLineOf read line = (line ≡ Unknown) ⊎ ((name : List ℕ) × (found : Found) × (subcommand_rows_of read ≡ Some (name, rows_of found)) × IsNamed name found line)
+
+-- the words are this line: they have the name of one, and its values
+abbrev pub IsLineRead : List Text → Line → Type 0
+IsLineRead words line = (line ≡ Unknown) ⊎ ((name : Text) × (found : Found) × (subcommand_of program_app words ≡ Some (name, rows_of found)) × IsNamed name found line)

@@ -1,4 +1,4 @@
-ghost use Rattle.std.specs.Prelude.{◌≡◌, ◌⊎◌, ◌≤◌, Some, Ok, Err, option_map, IfErr, OnOk};
+ghost use Rattle.std.specs.Prelude.{◌≡◌, ◌⊎◌, ◌≤◌, Some, Ok, Err, map, option_map, IfErr, OnOk};
 ghost use Rattle.std.specs.Io.KnownBytes.{Appends, Keeps};
 ghost use Rattle.clap.specs.Values.{kind_of};
 ghost use Rattle.clap.specs.declared.error.kind.ErrorKind.TheVariants.{DisplayVersion};
@@ -118,7 +118,7 @@ pub fn run<'a, B: BooksAt + Drop, S: AsStr, W: Write, E: Write>(
     out: &mut W,
     err: &mut E,
 ) -> (Option<B::Left>, u8)
-    ensures status { IsRun (B.ends books) (W.contents out.old) (W.contents out.new) (E.contents err.old) (E.contents err.new) result.1 result.0 }
+    ensures status { IsRun (B.ends books) (map S.text words.entry.now) (W.contents out.old) (W.contents out.new) (E.contents err.old) (E.contents err.new) result.1 result.0 }
     ensures range { result.1 ≤ MISUSED }
 {
     let (left, end) = do_line(alloc, books, words, out, err);
@@ -133,7 +133,7 @@ fn do_line<'a, B: BooksAt + Drop, S: AsStr, W: Write, L: Write>(
     out: &mut W,
     log: &mut L,
 ) -> LineEnd<B::Left>
-    ensures { IsEnded (B.ends books) (W.contents out.old) (W.contents out.new) (L.contents log.old) (L.contents log.new) result.1 result.0 }
+    ensures { IsEnded (B.ends books) (map S.text words.entry.now) (W.contents out.old) (W.contents out.new) (L.contents log.old) (L.contents log.new) result.1 result.0 }
 {
     match read_line(alloc, words) {
         Ok(line) => {

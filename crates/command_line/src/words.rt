@@ -1,6 +1,12 @@
-ghost use Rattle.std.specs.Prelude.{codes};
+ghost use Rattle.std.specs.Prelude.{◌≡◌, codes, false, map, IfOk};
+ghost use Rattle.clap.specs.Faults.{fault_of};
+ghost use Rattle.clap.specs.Kinds.{FailsBy};
 ghost use Rattle.clap.specs.Matches.{found_of};
-ghost use Rattle.command_line.specs.Words.{IsNamed, IsLineOf};
+ghost use Rattle.clap.specs.Simple.{App, app_of, new_rule, with_subcommand as add_subcommand};
+ghost use Rattle.clap.specs.Walk.{rule_of};
+ghost use Rattle.clap.specs.declared.builder.command.Command.TheViews.{out-Command as fields_of};
+ghost use Rattle.command_line.specs.Program.{add_lines, add_values, bare_app, line_app, program_app, value_rule, text_rule, IsApp};
+ghost use Rattle.command_line.specs.Words.{IsNamed, IsLineOf, IsLineRead};
 
 use crate::version::VERSION;
 use clap::{Arg, ArgAction, ArgMatches, Command, Error, value_parser};
@@ -394,7 +400,10 @@ A TEXT that begins with a dash goes after two dashes: lotd label --day DATE -- T
 
 /// Reads the words of a line, the program's name first. The error is what `clap` says of words that
 /// are no line, or the help that was asked for; its kind is `OutOfMemory` where no memory was left.
-pub(crate) fn read_line<'a, S: AsStr>(alloc: Global, words: &'a [S]) -> Result<Line<'a>, Error> {
+pub(crate) fn read_line<'a, S: AsStr>(alloc: Global, words: &'a [S]) -> Result<Line<'a>, Error>
+    ensures fails { FailsBy (fault_of program_app (map S.text words.entry.now)) result }
+    ensures read { IfOk result (IsLineRead (map S.text words.entry.now)) }
+{
     let matches = program(alloc)?.try_get_matches_from(words)?;
     let line = line_found(&matches);
     // A call: dropped at the end of its scope it is dropped field by field (docs/GATE.md).
@@ -516,15 +525,15 @@ fn apply_line<'a>(found: &ArgMatches<'a>) -> Line<'a>
     }
 }
 
-fn program<'a>(alloc: Global) -> Result<Command<'a>, AllocError> {
-    let mut program = bare_program(alloc);
-    for line in LINES.as_slice() {
-        program = with_subcommand(program, subcommand(alloc, line))?;
-    }
-    Ok(program)
+fn program<'a>(alloc: Global) -> Result<Command<'a>, AllocError>
+    ensures { IfOk result (λ c. app_of c ≡ program_app) }
+{
+    with_lines(alloc, bare_program(alloc), LINES.as_slice())
 }
 
-fn bare_program<'a>(alloc: Global) -> Command<'a> {
+fn bare_program<'a>(alloc: Global) -> Command<'a>
+    ensures { app_of result ≡ bare_app }
+{
     Command::new(alloc, "lotd")
         .about("Lot stock: the stock of a food wholesaler, lot by lot")
         .version(VERSION)
@@ -532,10 +541,27 @@ fn bare_program<'a>(alloc: Global) -> Command<'a> {
         .subcommand_required(true)
 }
 
+/// Tells of the lines, one after another.
+fn with_lines<'a>(
+    alloc: Global,
+    bare: Command<'a>,
+    lines: &'static [Words],
+) -> Result<Command<'a>, AllocError>
+    ensures { IfOk result (λ c. app_of c ≡ add_lines lines.now (app_of bare.entry)) }
+{
+    let mut program = bare;
+    for line in lines {
+        program = with_subcommand(program, subcommand(alloc, line))?;
+    }
+    Ok(program)
+}
+
 fn with_subcommand<'a>(
     program: Command<'a>,
     subcommand: Result<Command<'a>, AllocError>,
-) -> Result<Command<'a>, AllocError> {
+) -> Result<Command<'a>, AllocError>
+    ensures { (told : App) → IfOk subcommand.entry (λ s. IsApp s told) → IfOk result (λ c. app_of c ≡ add_subcommand (app_of program.entry) told.top) }
+{
     match subcommand {
         Ok(subcommand) => program.subcommand(subcommand),
         Err(error) => {
@@ -546,21 +572,42 @@ fn with_subcommand<'a>(
     }
 }
 
-fn subcommand<'a>(alloc: Global, line: &'static Words) -> Result<Command<'a>, AllocError> {
-    let mut command = Command::new(alloc, line.name)
+fn subcommand<'a>(alloc: Global, line: &'static Words) -> Result<Command<'a>, AllocError>
+    ensures { IfOk result (λ c. IsApp c (line_app line.now)) }
+{
+    let bare = Command::new(alloc, line.name)
         .about(line.about)
         .after_help(line.examples);
-    for value in line.values {
-        command = command.arg(arg(alloc, value))?;
+    with_values(alloc, bare, line.values)
+}
+
+/// Tells of the values, one after another.
+fn with_values<'a>(
+    alloc: Global,
+    bare: Command<'a>,
+    values: &'static [Value],
+) -> Result<Command<'a>, AllocError>
+    requires local { (fields_of bare).has_globals ≡ false }
+    ensures { IfOk result (λ c. IsApp c (add_values values.now (app_of bare.entry))) }
+{
+    let mut command = bare;
+    for value in values {
+        command = command.arg(arg_of(alloc, value))?;
     }
     Ok(command)
 }
 
-fn arg<'a>(alloc: Global, value: &'static Value) -> Arg<'a> {
+fn arg_of<'a>(alloc: Global, value: &'static Value) -> Arg<'a>
+    ensures told { rule_of result ≡ value_rule value.now }
+    ensures local { result.global ≡ false }
+{
     of_kind(Arg::new(alloc, value.id).help(value.help), value)
 }
 
-fn of_kind<'a>(arg: Arg<'a>, value: &'static Value) -> Arg<'a> {
+fn of_kind<'a>(arg: Arg<'a>, value: &'static Value) -> Arg<'a>
+    ensures told { rule_of arg.entry ≡ new_rule value.now.id.now → rule_of result ≡ value_rule value.now }
+    ensures local { result.global ≡ arg.entry.global }
+{
     match value.kind {
         Kind::Bare => with_value(arg, value),
         Kind::Named => with_value(arg, value).long(value.id),
@@ -575,7 +622,10 @@ fn of_kind<'a>(arg: Arg<'a>, value: &'static Value) -> Arg<'a> {
     }
 }
 
-fn with_value<'a>(arg: Arg<'a>, value: &'static Value) -> Arg<'a> {
+fn with_value<'a>(arg: Arg<'a>, value: &'static Value) -> Arg<'a>
+    ensures told { rule_of arg.entry ≡ new_rule value.now.id.now → rule_of result ≡ text_rule value.now.id.now }
+    ensures local { result.global ≡ arg.entry.global }
+{
     arg.value_name(value.stands_for)
         .required(true)
         .action(ArgAction::Set)

@@ -1,17 +1,5 @@
 -- Which act a row of `repeats` is of.
-use Rattle.std.proofs.Common.{◌≡◌, ℕ, ◌+◌, ◌≤◌, List, [], ◌∷◌, ◌++◌, length, length-append, find, inl, inr, refl, sym, ap, subst, ◌∙◌, arith, Some}
-use Rattle.std.specs.Prelude.{ℤ}
-use Rattle.std.specs.List.{AllByRecursion}
-use Rattle.std.proofs.lemmas.Bool.{cases_Bool}
-use Rattle.std.proofs.lemmas.Option.{same_Some, none-some}
-use Rattle.std.proofs.lemmas.Slice.Eq.{bytes_eq-Decides}
-use Rattle.values.specs.Values.{same_text}
-use Rattle.commands.specs.Spelling.{key_text}
-use Rattle.commands.specs.declared.rows.RepeatRow.{RepeatRow}
-use Rattle.machine.specs.Acts.{Act}
-use Rattle.machine.specs.Once.{IsHistory}
-use Rattle.machine.specs.Tables.{repeat_row}
-use Rattle.histories.specs.Books.{row_of}
+use Rattle.histories.proofs.Words.{◌≡◌, ℕ, ◌+◌, ◌≤◌, List, [], ◌∷◌, ◌++◌, length, length-append, find, inl, inr, refl, sym, ap, subst, ◌∙◌, arith, Some, ℤ, AllByRecursion, cases_Bool, same_Some, none-some, bytes_eq-Decides, same_text, key_text, RepeatRow, Act, IsHistory, repeat_row, row_of}
 
 -- a row that is found has a number of those so far
 pub numbered : (first : ℤ) (acts : List Act) (k : List ℕ) (r : RepeatRow) → repeat_row first acts k ≡ Some r → r.act ≤ length acts

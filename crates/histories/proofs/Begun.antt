@@ -1,19 +1,6 @@
 -- The first act that tells of the day that the acts began on.
-use Rattle.std.proofs.Common.{◌≡◌, ◌≢◌, ℕ, List, [], ◌∷◌, ◌++◌, append-nil, find, inl, inr, refl, sym, ap, subst, ◌∙◌, Option, Some, None}
-use Rattle.std.specs.Prelude.{ℤ}
-use Rattle.std.specs.List.{AllByRecursion}
-use Rattle.values.specs.Values.{same_text}
-use Rattle.commands.specs.Sinks.{Reaches, StopsWithin}
-use Rattle.commands.specs.declared.rows.RepeatRow.{RepeatRow}
-use Rattle.spellings.specs.Starting.{told_by, Tells}
-use Rattle.spellings.specs.declared.start.Start.{Start}
-use Rattle.spellings.proofs.Starting.{told_as}
-use Rattle.machine.specs.Acts.{Act, next_number}
-use Rattle.machine.specs.Once.{IsHistory}
-use Rattle.machine.specs.Tables.{repeat_row}
-use Rattle.histories.specs.Books.{row_of}
-use Rattle.histories.specs.Start.{told_first, start_of, Passes, Finds}
-use Rattle.histories.specs.declared.first_start.FirstStart.{FirstStart}
+use Rattle.histories.proofs.Words.{◌≡◌, ◌≢◌, ℕ, List, [], ◌∷◌, ◌++◌, append-nil, find, refl, sym, ap, subst, ◌∙◌, Option, Some, None, ℤ, AllByRecursion, same_text, Reaches, StopsWithin, RepeatRow, told_by, Tells, Start, told_as, Act, next_number, IsHistory, repeat_row, row_of, GoOnFrom, IsOfRow, told_first, start_of, Passes, IsFound, Finds, Foreign, FirstStart}
+use Rattle.histories.proofs.InTurn.{not_in_turn}
 use Rattle.histories.proofs.Walking.{Walks, IsOfActs, SoFar, all_so_far, front_all, at_next, next, later_parts, next_history, whole}
 
 -- what older acts tell stands
@@ -55,19 +42,25 @@ module _ (first : ℤ) (acts : List Act) (history : IsHistory first acts) where
   none_tells rows start after none mine found h = sym (whole first acts history Passes done_of TellNone passes rows start after (none_yet start none) mine found h)
 
   of_next : (now after : FirstStart) (r : RepeatRow) → Goes now → Mine r → Finds now r after → after.found ≢ None → after.found ≡ start_of acts
-  of_next now after r end mine (inl none) some = absurd (some none)
-  of_next now after r end mine (inr it) some =
-      let act = next first acts history Passes done_of TellNone passes now end r mine it.0 in
-      let own = next_history first acts history Passes done_of TellNone passes now end r mine it.0 in
-      let parts = later_parts first acts history Passes done_of TellNone passes now end r mine it.0 in
-      known after.found act.later (act.act ∷ end.older) (told_next act.act end.older after.found own end.keeps (subst (λ s. Tells s after.found) act.row it.1)) parts some
+  of_next now after r end mine it some = by_found after.found it some
     where
-      known : (found : Option Start) (newer older : List Act) → found ≡ start_of older → acts ≡ newer ++ older → found ≢ None → found ≡ start_of acts
-      known None newer older is parts some = absurd (some refl)
-      known (Some s) newer older is parts some = sym (start_kept newer older s (sym is)) ∙ ap start_of (sym parts)
+      by_found : (found : Option Start) → IsFound found now.done r after.fault → found ≢ None → found ≡ start_of acts
+      by_found None it some = absurd (some refl)
+      by_found (Some s) it some =
+          let act = next first acts history Passes done_of TellNone passes now end r mine it.0 in
+          let own = next_history first acts history Passes done_of TellNone passes now end r mine it.0 in
+          let parts = later_parts first acts history Passes done_of TellNone passes now end r mine it.0 in
+          let is = told_next act.act end.older (Some s) own end.keeps (subst (λ t. Tells t (Some s)) act.row it.1) in
+          sym (start_kept act.later (act.act ∷ end.older) s (sym is)) ∙ ap start_of (sym parts)
 
   pub one_tells : (rows : List RepeatRow) (start after : FirstStart) → start.done ≡ 0 → AllByRecursion Mine rows → StopsWithin Passes Finds start rows after → after.found ≢ None → after.found ≡ start_of acts
   one_tells rows start after none mine h some =
       let all = subst (AllByRecursion Mine) h.parts mine in
       let end = all_so_far first acts history Passes done_of TellNone passes h.taken start h.last (none_yet start none) (front_all first acts history Passes done_of TellNone passes h.taken (h.next ∷ h.others) all) h.reached in
       of_next h.last after h.next end (at_next first acts history Passes done_of TellNone passes h.taken h.others h.next all) h.stopped some
+
+  -- none was found, and a row is told to be foreign: the rows are not in turn
+  pub none_found : (rows : List RepeatRow) (start after : FirstStart) → start.done ≡ 0 → AllByRecursion Mine rows → StopsWithin Passes Finds start rows after → after.found ≡ None → after.fault ≡ Foreign → ¬ GoOnFrom 0 rows
+  none_found rows start after none mine h nothing foreign =
+      let stopped = subst (λ found. IsFound found h.last.done h.next after.fault) nothing h.stopped in
+      not_in_turn Passes done_of (λ now r then t. t.done) first acts Finds rows start after history none mine h (subst (IsOfRow h.last.done h.next) foreign stopped)

@@ -1,22 +1,5 @@
 -- The lines that were written, and the acts that they are of.
-use Rattle.std.proofs.Common.{◌≡◌, ℕ, ◌+◌, List, [], ◌∷◌, ◌++◌, append_assoc, append-nil, find, inl, inr, refl, sym, ap, subst, ◌∙◌, Option}
-use Rattle.std.specs.Prelude.{ℤ}
-use Rattle.std.specs.List.{AllByRecursion}
-use Rattle.std.specs.Io.KnownBytes.{Appends}
-use Rattle.std.proofs.KnownBytes.{Appends-trans, Appends-nil}
-use Rattle.values.specs.Values.{same_text}
-use Rattle.commands.specs.Spelling.{key_text, spelling}
-use Rattle.commands.specs.Sinks.{Reaches, ReachesWithin, StopsWithin}
-use Rattle.commands.specs.declared.rows.RepeatRow.{RepeatRow}
-use Rattle.machine.specs.Acts.{Act, next_number}
-use Rattle.machine.specs.Once.{IsHistory}
-use Rattle.machine.specs.Standing.{day_after_command, today}
-use Rattle.machine.specs.Tables.{repeat_row}
-use Rattle.texts.specs.Writing.{AppendsBeginning}
-use Rattle.texts.proofs.Beginnings.{beginning_of_first, beginning_of_second}
-use Rattle.histories.specs.Text.{history_line, history_text}
-use Rattle.histories.specs.Lines.{IsDayAfter, row_line, AddsLine, CutsLine}
-use Rattle.histories.specs.declared.lines.HistoryLines.{HistoryLines}
+use Rattle.histories.proofs.Words.{◌≡◌, ℕ, ◌+◌, List, [], ◌∷◌, ◌++◌, append_assoc, append-nil, find, inl, inr, refl, sym, ap, subst, ◌∙◌, Option, ℤ, AllByRecursion, Appends, Appends-trans, Appends-nil, same_text, key_text, spelling, Reaches, ReachesWithin, StopsWithin, RepeatRow, Act, next_number, IsHistory, day_after_command, today, repeat_row, AppendsBeginning, beginning_of_first, beginning_of_second, history_line, history_text, IsDayAfter, row_line, AddsLine, StopsLine, HistoryLines}
 use Rattle.histories.proofs.Walking.{Walks, IsOfActs, SoFar, all_so_far, front_all, at_next, next, later_parts, next_history, whole}
 
 -- the text of all acts begins with that of the earlier ones
@@ -80,13 +63,13 @@ module _ {W : Type 0} (contents : W → Option (List ℕ)) (first begun : ℤ) (
       begun_text begun acts end.newer end.older (contents start.out) (contents after.out) end.parts (whole_beginning (contents start.out) (contents after.out) (history_text begun end.older) end.keeps.1)
 
   -- and a part of the next line
-  pub cut_written : (rows : List RepeatRow) (after : HistoryLines W) → Goes start → AllByRecursion Mine rows → StopsWithin (AddsLine contents) (CutsLine contents) start rows after
+  pub cut_written : (rows : List RepeatRow) (after : HistoryLines W) → Goes start → AllByRecursion Mine rows → StopsWithin (AddsLine contents) (StopsLine contents) start rows after
       → AppendsBeginning (contents start.out) (contents after.out) (history_text begun acts)
   cut_written rows after from mine h =
       let all = subst (AllByRecursion Mine) h.parts mine in
       let end = all_so_far first acts history (AddsLine contents) (λ (l : HistoryLines W). l.done) Written writes h.taken start h.last from
       (front_all first acts history (AddsLine contents) (λ (l : HistoryLines W). l.done) Written writes h.taken (h.next ∷ h.others) all) h.reached in
-      elim h.stopped [
+      elim h.stopped.0 [
         | inl none ↦
             begun_text begun acts end.newer end.older (contents start.out) (contents after.out) end.parts
             (subst (AppendsBeginning (contents start.out) (contents after.out)) (append-nil (history_text begun end.older))

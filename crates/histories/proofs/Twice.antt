@@ -1,13 +1,5 @@
 -- Two calls that change nothing, one after the other.
-use Rattle.std.proofs.Common.{◌≡◌, inl, inr, sym, subst, ◌∙◌, arith}
-use Rattle.std.specs.Prelude.{◌⊎◌, ℤ, List}
-use Rattle.sqlite.specs.Effect.{Database}
-use Rattle.sqlite.specs.State.{State, HasCleanDisk, Survives, IsUnchanged, IsRolledBack}
-use Rattle.sqlite.proofs.Callers.{unchanged_then}
-use Rattle.sqlite.proofs.StateLemmas.{survives_then}
-use Rattle.machine.specs.Acts.{Act}
-use Rattle.table_words.specs.Steps.{IsReady}
-use Rattle.histories.specs.Books.{HasRowsOf}
+use Rattle.histories.proofs.Words.{◌≡◌, inl, inr, sym, subst, ◌∙◌, arith, ◌⊎◌, ℤ, List, Database, State, HasCleanDisk, Survives, IsUnchanged, IsRolledBack, unchanged_then, survives_then, Act, IsReady, HasRowsOf}
 
 pub left_then : (a b c : State) → IsUnchanged a b → IsUnchanged b c ⊎ IsRolledBack b c → IsUnchanged a c ⊎ IsRolledBack a c
 left_then a b c one (inl two) = inl (unchanged_then a b c one two)
@@ -23,7 +15,7 @@ module _ (a b c : State) (one : Survives a b (λ _. ¬ IsReady a.now)) (two : Su
   pub was_clean : HasCleanDisk c → HasCleanDisk b
   was_clean clean = omega (arith, clean, two.clean)
 
-  shown : HasCleanDisk c → IsReady a.now → b.now ≡ a.now
+  pub shown : HasCleanDisk c → IsReady a.now → b.now ≡ a.now
   shown clean ready = (same (was_clean clean) ready).0.now_is
 
   pub ready_on : HasCleanDisk c → IsReady a.now → IsReady b.now

@@ -1,15 +1,5 @@
 -- A sink that takes the rows of `repeats` act by act, and what it keeps of the acts so far.
-use Rattle.std.proofs.Common.{◌≡◌, ℕ, ◌+◌, ◌≤◌, List, [], ◌∷◌, ◌++◌, append_assoc, length, length-append, find, sym, ap, subst, ◌∙◌, arith, Some}
-use Rattle.std.specs.Prelude.{ℤ}
-use Rattle.std.specs.List.{AllByRecursion}
-use Rattle.values.specs.Values.{same_text}
-use Rattle.commands.specs.Spelling.{key_text}
-use Rattle.commands.specs.Sinks.{Reaches}
-use Rattle.commands.specs.declared.rows.RepeatRow.{RepeatRow}
-use Rattle.machine.specs.Acts.{Act}
-use Rattle.machine.specs.Once.{IsHistory}
-use Rattle.machine.specs.Tables.{repeat_row}
-use Rattle.histories.specs.Books.{row_of}
+use Rattle.histories.proofs.Words.{◌≡◌, ℕ, ◌+◌, ◌≤◌, List, [], ◌∷◌, ◌++◌, append_assoc, length, length-append, find, sym, ap, subst, ◌∙◌, arith, Some, ℤ, AllByRecursion, same_text, key_text, Reaches, RepeatRow, Act, IsHistory, repeat_row, row_of}
 use Rattle.histories.proofs.Acts.{Next, next_act, earlier, found_all, newest}
 
 -- a sink that takes the row of the next act alone keeps this

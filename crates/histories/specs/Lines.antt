@@ -8,6 +8,7 @@ use Rattle.commands.specs.declared.rows.RepeatRow.{RepeatRow}
 use Rattle.machine.specs.Standing.{day_after_command}
 use Rattle.texts.specs.Writing.{AppendsBeginning}
 use Rattle.histories.specs.Text.{history_line}
+use Rattle.histories.specs.Faults.{IsOfRow}
 use Rattle.histories.specs.declared.lines.HistoryLines.{HistoryLines}
 
 -- the day after the command that is spelled so
@@ -30,3 +31,7 @@ abbrev pub CutsLine : {W : Type 0} → (W → Option (List ℕ)) → (before : H
 CutsLine contents before row after =
     Appends (contents before.out) (contents after.out) []
     ⊎ ((row.act ≡ before.done + 1) × (day : ℤ) × IsDayAfter row.spell before.day day × AppendsBeginning (contents before.out) (contents after.out) (row_line day row))
+
+-- and why it stopped: a row is told to be foreign where it is not that of the next act
+abbrev pub StopsLine : {W : Type 0} → (W → Option (List ℕ)) → (before : HistoryLines W) → RepeatRow → (after : HistoryLines W) → Type 0
+StopsLine contents before row after = CutsLine contents before row after × IsOfRow before.done row after.fault

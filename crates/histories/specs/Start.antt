@@ -1,13 +1,15 @@
 -- The day on which the acts began, as far as their tables tell it.
-use Rattle.std.specs.Prelude.{◌≡◌, ◌⊎◌, ◌+◌, ℤ, List, [], ◌∷◌, Option, Some, None, option_map}
+use Rattle.std.specs.Prelude.{◌≡◌, ◌+◌, ℕ, ℤ, List, [], ◌∷◌, Option, Some, None, option_map}
 use Rattle.commands.specs.declared.rows.MetaRow.{MetaRow}
 use Rattle.commands.specs.declared.rows.CardRow.{CardRow}
 use Rattle.commands.specs.declared.rows.RepeatRow.{RepeatRow}
-use Rattle.spellings.specs.Starting.{told_by, Tells, day_before}
-use Rattle.spellings.specs.declared.start.Start.{Start}
-use Rattle.spellings.specs.declared.start.Start.TheVariants.{Received, Opened}
+use Rattle.texts.specs.Starting.{told_by, Tells, day_before}
+use Rattle.texts.specs.declared.start.Start.{Start}
+use Rattle.texts.specs.declared.start.Start.TheVariants.{Received, Opened}
 use Rattle.machine.specs.Acts.{Act, next_number}
 use Rattle.machine.specs.Tables.{Tables, tables_of}
+use Rattle.histories.specs.Faults.{IsOfRow}
+use Rattle.histories.specs.declared.fault.HistoryFault.{HistoryFault}
 use Rattle.histories.specs.declared.first_start.FirstStart.{FirstStart}
 use Rattle.histories.specs.declared.start.CardDay.{CardDay}
 
@@ -41,13 +43,21 @@ pub record Passes (before : FirstStart) (row : RepeatRow) (after : FirstStart) :
   pub done : after.done ≡ before.done + 1
   pub nothing : Tells row None
 
--- it tells what was found, or it is not of the next act, or could not be read
+-- the row of the act behind so many tells what was found; where nothing was, it is not of that act, or could not be read
+abbrev pub IsFound : Option Start → (done : ℕ) → RepeatRow → HistoryFault → Type 0
+IsFound None done row fault = IsOfRow done row fault
+IsFound (Some found) done row fault = (row.act ≡ done + 1) × Tells row (Some found)
+
 abbrev pub Finds : (before : FirstStart) → RepeatRow → (after : FirstStart) → Type 0
-Finds before row after = (after.found ≡ None) ⊎ ((row.act ≡ before.done + 1) × Tells row after.found)
+Finds before row after = IsFound after.found before.done row after.fault
+
+-- the card line is that of the act on the card of the lot
+abbrev pub IsSought : CardDay → CardRow → Type 0
+IsSought sought row = (row.lot ≡ sought.lot) × (row.act ≡ sought.act)
 
 -- a card line of another act or lot is passed, and that of the act tells its day
 abbrev pub IsPassed : CardDay → CardRow → CardDay → Type 0
-IsPassed before row after = (after.lot ≡ before.lot) × (after.act ≡ before.act)
+IsPassed before row after = (after.lot ≡ before.lot) × (after.act ≡ before.act) × ¬ IsSought before row
 
 abbrev pub TellsDay : CardDay → CardRow → CardDay → Type 0
 TellsDay before row after = (row.lot ≡ before.lot) × (row.act ≡ before.act) × (after.day ≡ Some row.day)

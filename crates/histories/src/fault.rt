@@ -1,7 +1,7 @@
 ghost use Rattle.std.specs.Prelude.{◌≡◌};
 ghost use Rattle.histories.specs.Faults.{fault_of};
 
-use each_row::EachFault;
+use keyed_rows::EachFault;
 use std::alloc::AllocError;
 use table_words::error::TableFault;
 

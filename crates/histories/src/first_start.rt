@@ -1,12 +1,13 @@
 //! A sink that finds the first act that tells of the day that the acts began on.
 
-ghost use Rattle.std.specs.Prelude.{◌≡◌, ◌+◌, IfOk, OnOk};
-ghost use Rattle.spellings.specs.Starting.{Tells};
+ghost use Rattle.std.specs.Prelude.{◌≡◌, ◌+◌, IfOk, IfErr, OnOk};
+ghost use Rattle.texts.specs.Starting.{Tells};
+ghost use Rattle.histories.specs.Faults.{IsOfRow};
 
-use crate::HistoryFault;
+use crate::{HistoryFault, is_next};
 use commands::{RepeatRow, Sink, Stop};
-use spellings::{Start, told_by_row};
 use std::alloc::Global;
+use texts::{Start, told_by_row};
 
 /// Takes the rows of the acts, in the order of their numbers, up to the first that tells of the day. It also stops at a row
 /// that is not of the next act or spells no command, and where no memory is left.
@@ -51,8 +52,9 @@ impl FirstStart {
     fn pass(&self, row: &RepeatRow) -> Result<Option<Start>, HistoryFault>
         ensures turn { OnOk result (row.now.act ≡ self.now.done + 1) }
         ensures told { IfOk result (Tells row.now) }
+        ensures fault { IfErr result (IsOfRow self.now.done row.now) }
     {
-        if self.done.checked_add(1) != Some(row.act) {
+        if !is_next(row.act, self.done) {
             return Err(HistoryFault::Foreign);
         }
         match told_by_row(self.alloc, row)? {

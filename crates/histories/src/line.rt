@@ -1,9 +1,10 @@
 //! The line of an act.
 
-ghost use Rattle.std.specs.Prelude.{◌≡◌, ◌++◌, ◌∷◌, IfOk, OnOk};
+ghost use Rattle.std.specs.Prelude.{◌≡◌, ◌≢◌, ◌++◌, ◌∷◌, IfOk, IfErr, OnOk};
 ghost use Rattle.texts.specs.Writing.{Writes};
 ghost use Rattle.histories.specs.Text.{tabbed, history_line};
 ghost use Rattle.histories.specs.Lines.{row_line};
+ghost use Rattle.histories.specs.declared.fault.HistoryFault.TheVariants.{Foreign};
 
 use crate::HistoryFault;
 use commands::{RepeatRow, decimal_text};
@@ -19,7 +20,8 @@ pub(crate) fn put_line<W: Write>(
     row: &RepeatRow,
     out: &mut W,
 ) -> Result<(), HistoryFault>
-    ensures { Writes result (W.contents out.old) (W.contents out.new) (row_line day row.now) }
+    ensures written { Writes result (W.contents out.old) (W.contents out.new) (row_line day row.now) }
+    ensures own { IfErr result (λ fault. fault ≢ Foreign) }
 {
     let line = act_text(alloc, row.act, day, row.k.as_bytes(), row.spell.as_slice())?;
     match put(line.as_slice(), out) {

@@ -1,13 +1,14 @@
 //! A sink that writes a line for each act.
 
-ghost use Rattle.std.specs.Prelude.{◌≡◌, ◌⊎◌, ◌+◌, Err, IfOk, OnOk, OnErr};
+ghost use Rattle.std.specs.Prelude.{◌≡◌, ◌⊎◌, ◌+◌, Err, IfOk, IfErr, OnOk, OnErr};
 ghost use Rattle.machine.specs.Standing.{day_after_command};
+ghost use Rattle.histories.specs.Faults.{IsOfSpelling, IsOfRow};
 ghost use Rattle.histories.specs.Lines.{IsDayAfter, AddsLine, CutsLine};
 ghost use Rattle.histories.specs.declared.fault.HistoryFault.TheVariants.{Foreign};
 
-use crate::HistoryFault;
 use crate::line::put_line;
 use crate::spelled::read_spelling;
+use crate::{HistoryFault, is_next};
 use commands::{Command, RepeatRow, Sink, Stop};
 use label::Day;
 use std::alloc::Global;
@@ -28,11 +29,11 @@ pub struct HistoryLines<W> {
 }
 
 impl<W: Write> Sink<RepeatRow> for HistoryLines<W> {
-    ghost use Rattle.histories.specs.Lines.{AddsLine, CutsLine};
+    ghost use Rattle.histories.specs.Lines.{AddsLine, StopsLine};
 
     ghost takes = { AddsLine W.contents };
 
-    ghost stops = { CutsLine W.contents };
+    ghost stops = { StopsLine W.contents };
 
     fn take(&mut self, row: &RepeatRow) -> Result<(), Stop> {
         match self.put(row) {
@@ -50,8 +51,9 @@ impl<W: Write> HistoryLines<W> {
         ensures added { OnOk result (AddsLine W.contents self.old row.now self.new) }
         ensures cut { OnErr result (CutsLine W.contents self.old row.now self.new) }
         ensures turn { (row.now.act ≡ self.old.done + 1) ⊎ (result ≡ Err Foreign) }
+        ensures fault { IfErr result (IsOfRow self.old.done row.now) }
     {
-        if self.done.checked_add(1) != Some(row.act) {
+        if !is_next(row.act, self.done) {
             return Err(HistoryFault::Foreign);
         }
         let day = day_after(self.alloc, self.day, row.spell.as_slice())?;
@@ -64,7 +66,8 @@ impl<W: Write> HistoryLines<W> {
 
 /// The business day after the command that is spelled so: the day that it opens, or the day before it.
 pub fn day_after(alloc: Global, day: Day, spell: &[u8]) -> Result<Day, HistoryFault>
-    ensures { IfOk result (λ after. IsDayAfter spell.now day after) }
+    ensures day { IfOk result (λ after. IsDayAfter spell.now day after) }
+    ensures fault { IfErr result (IsOfSpelling spell.now) }
 {
     let command = read_spelling(alloc, spell)?;
     let after = day_then(&command, day);

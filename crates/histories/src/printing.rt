@@ -1,6 +1,6 @@
 //! The history of the books, printed.
 
-ghost use Rattle.std.specs.Prelude.{◌≡◌, ◌⊎◌, ◌++◌, false, ℤ, List, length};
+ghost use Rattle.std.specs.Prelude.{◌≡◌, ◌⊎◌, false, ℤ, List, IfErr};
 ghost use Rattle.sqlite.specs.Held.{state};
 ghost use Rattle.sqlite.specs.State.{HasCleanDisk, Survives, IsUnchanged, IsRolledBack};
 ghost use Rattle.machine.specs.Acts.{Act};
@@ -10,21 +10,22 @@ ghost use Rattle.texts.specs.Writing.{Writes};
 ghost use Rattle.table_words.specs.Steps.{IsReady};
 ghost use Rattle.histories.specs.Text.{history_text};
 ghost use Rattle.histories.specs.Books.{HasRowsOf};
+ghost use Rattle.histories.specs.Faults.{IsOfRows};
 ghost use Rattle.histories.specs.Printed.{IsHistoryPrinted};
-ghost use Rattle.histories.specs.Newer.{IsPrintedAbove};
 
 use crate::HistoryFault;
 use crate::lines::HistoryLines;
 use crate::start::find_first_day;
-use history_tables::repeats::Repeats;
 use label::Day;
 use sqlite::{Alter, Connection};
 use std::alloc::Global;
 use std::io::Write;
-use whole_tables::{each_above, each_of_all};
+use tables::repeats::Repeats;
+use whole_tables::each_of_all;
 
 /// Prints a line for each act of the books, by number: no call takes memory that grows with the acts. `today` is the
-/// business day of the books. After a fault a beginning stands. Nothing is changed.
+/// business day of the books. After a fault a beginning stands. Nothing is changed. `Foreign` only where the rows of the acts
+/// are not stored in their order.
 pub fn print_history<S: Alter, W: Write>(
     alloc: Global,
     conn: &mut Connection<S>,
@@ -33,6 +34,8 @@ pub fn print_history<S: Alter, W: Write>(
 ) -> (W, Result<(), HistoryFault>)
     ensures printed { HasCleanDisk (state S.Store conn.new) → IsReady (state S.Store conn.old).now → (first : ℤ) (acts : List Act) → IsHistory first acts → HasRowsOf first acts (state S.Store conn.old).now.trees → today ≡ today_of first acts
         → IsHistoryPrinted first acts (W.contents out) (W.contents result.0) result.1 }
+    ensures foreign { HasCleanDisk (state S.Store conn.new) → IsReady (state S.Store conn.old).now → (first : ℤ) (acts : List Act) → IsHistory first acts → HasRowsOf first acts (state S.Store conn.old).now.trees
+        → IfErr result.1 (IsOfRows (state S.Store conn.old).now.trees) }
     ensures left { HasCleanDisk (state S.Store conn.new) → IsReady (state S.Store conn.old).now → IsUnchanged (state S.Store conn.old) (state S.Store conn.new) ⊎ IsRolledBack (state S.Store conn.old) (state S.Store conn.new) }
     ensures outside { conn.old.in_transaction ≡ false → conn.new.in_transaction ≡ false }
     ensures survives { Survives (state S.Store conn.old) (state S.Store conn.new) (λ _. ¬ IsReady (state S.Store conn.old).now) }
@@ -52,6 +55,8 @@ fn print_from<S: Alter, W: Write>(
 ) -> (W, Result<(), HistoryFault>)
     ensures printed { HasCleanDisk (state S.Store conn.new) → IsReady (state S.Store conn.old).now → (first : ℤ) (acts : List Act) → IsHistory first acts → HasRowsOf first acts (state S.Store conn.old).now.trees
         → Writes result.1 (W.contents out) (W.contents result.0) (history_text begun acts) }
+    ensures foreign { HasCleanDisk (state S.Store conn.new) → IsReady (state S.Store conn.old).now → (first : ℤ) (acts : List Act) → IsHistory first acts → HasRowsOf first acts (state S.Store conn.old).now.trees
+        → IfErr result.1 (IsOfRows (state S.Store conn.old).now.trees) }
     ensures left { HasCleanDisk (state S.Store conn.new) → IsReady (state S.Store conn.old).now → IsUnchanged (state S.Store conn.old) (state S.Store conn.new) ⊎ IsRolledBack (state S.Store conn.old) (state S.Store conn.new) }
     ensures outside { conn.old.in_transaction ≡ false → conn.new.in_transaction ≡ false }
     ensures survives { Survives (state S.Store conn.old) (state S.Store conn.new) (λ _. ¬ IsReady (state S.Store conn.old).now) }
@@ -67,44 +72,6 @@ fn print_from<S: Alter, W: Write>(
     let HistoryLines { fault, out, .. } = lines;
     match handed {
         Ok(()) => (out, Ok(())),
-        Err(cause) => (out, Err(HistoryFault::of(cause, fault))),
-    }
-}
-
-/// Prints a line for each act above number `done`, by number; `day` is the business day after that act. The number of the
-/// last act that was printed comes back, and the business day after it: all were printed where it is the number of acts of
-/// the books. After a fault a beginning of the lines stands. Nothing is changed.
-pub fn print_above<S: Alter, W: Write>(
-    alloc: Global,
-    conn: &mut Connection<S>,
-    done: u64,
-    day: Day,
-    out: W,
-) -> (W, Result<(u64, Day), HistoryFault>)
-    ensures printed { HasCleanDisk (state S.Store conn.new) → IsReady (state S.Store conn.old).now → (first begun : ℤ) (newer older : List Act) → IsHistory first (newer ++ older) → HasRowsOf first (newer ++ older) (state S.Store conn.old).now.trees
-        → done ≡ length older → day ≡ today_of begun older → IsPrintedAbove begun newer older (W.contents out) (W.contents result.0) result.1 }
-    ensures left { HasCleanDisk (state S.Store conn.new) → IsReady (state S.Store conn.old).now → IsUnchanged (state S.Store conn.old) (state S.Store conn.new) ⊎ IsRolledBack (state S.Store conn.old) (state S.Store conn.new) }
-    ensures outside { conn.old.in_transaction ≡ false → conn.new.in_transaction ≡ false }
-    ensures survives { Survives (state S.Store conn.old) (state S.Store conn.new) (λ _. ¬ IsReady (state S.Store conn.old).now) }
-{
-    let rowid = i64::try_from(done).unwrap_or(i64::MAX);
-    let mut lines = HistoryLines {
-        alloc,
-        day,
-        done,
-        fault: HistoryFault::Output,
-        out,
-    };
-    let handed = each_above::<Repeats, S, HistoryLines<W>>(alloc, conn, &rowid, &mut lines);
-    let HistoryLines {
-        fault,
-        out,
-        done,
-        day,
-        ..
-    } = lines;
-    match handed {
-        Ok(()) => (out, Ok((done, day))),
         Err(cause) => (out, Err(HistoryFault::of(cause, fault))),
     }
 }

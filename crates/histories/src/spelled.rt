@@ -1,19 +1,21 @@
 //! The command of a row.
 
-ghost use Rattle.std.specs.Prelude.{◌≡◌, Ok, Err, None, IfOk, IfSome, IsTrue};
+ghost use Rattle.std.specs.Prelude.{◌≡◌, Ok, Err, None, IfOk, IfErr, IfSome, IsTrue};
 ghost use Rattle.commands.specs.Sound.{is_sound};
 ghost use Rattle.commands.specs.Spelling.{spelling};
 ghost use Rattle.commands.specs.declared.command.Command.{Command as TheCommand};
+ghost use Rattle.histories.specs.Faults.{IsOfSpelling};
 ghost use Rattle.histories.specs.declared.fault.HistoryFault.TheVariants.{Foreign};
 
 use crate::HistoryFault;
 use commands::Command;
-use spellings::parse;
 use std::alloc::Global;
+use texts::parse;
 
 /// The command that is spelled so; `Foreign` where none is.
 pub(crate) fn read_spelling(alloc: Global, spell: &[u8]) -> Result<Command, HistoryFault>
-    ensures { IfOk result (λ found. (command : TheCommand) → IsTrue (is_sound command) → spell.now ≡ spelling command → found ≡ command) }
+    ensures one { IfOk result (λ found. (command : TheCommand) → IsTrue (is_sound command) → spell.now ≡ spelling command → found ≡ command) }
+    ensures fault { IfErr result (IsOfSpelling spell.now) }
 {
     command_read(parse(alloc, spell)?)
 }

@@ -6,25 +6,25 @@ ghost use Rattle.sqlite.specs.State.{HasCleanDisk, Survives, IsUnchanged, IsRoll
 ghost use Rattle.machine.specs.Acts.{Act};
 ghost use Rattle.machine.specs.Once.{IsHistory};
 ghost use Rattle.machine.specs.Standing.{today as today_of};
-ghost use Rattle.spellings.specs.Starting.{day_before as day_before_lem};
-ghost use Rattle.spellings.specs.declared.start.Start.TheVariants.{Received};
+ghost use Rattle.texts.specs.Starting.{day_before as day_before_lem};
+ghost use Rattle.texts.specs.declared.start.Start.TheVariants.{Received};
 ghost use Rattle.table_words.specs.Steps.{IsReady};
-ghost use Rattle.each_row.specs.declared.fault.EachFault.TheVariants.{Stopped};
+ghost use Rattle.keyed_rows.specs.declared.each_fault.EachFault.TheVariants.{Stopped};
 ghost use Rattle.histories.specs.Books.{HasRowsOf};
-ghost use Rattle.histories.specs.Faults.{fault_of};
+ghost use Rattle.histories.specs.Faults.{fault_of, IsOfRows};
 ghost use Rattle.histories.specs.Start.{IsStart, IsStartBy, start_of};
 ghost use Rattle.histories.specs.declared.fault.HistoryFault.TheVariants.{Foreign};
 
 use crate::HistoryFault;
 use crate::first_start::FirstStart;
 use commands::{CardRow, Sink, Stop};
-use each_row::EachFault;
-use history_tables::cards::Cards;
-use history_tables::repeats::Repeats;
+use keyed_rows::EachFault;
 use label::{BusinessDay, Day};
-use spellings::{Start, day_before};
 use sqlite::{Alter, Connection};
 use std::alloc::Global;
+use tables::cards::Cards;
+use tables::repeats::Repeats;
+use texts::{Start, day_before};
 use values::LotId;
 use whole_tables::each_of_all;
 
@@ -61,6 +61,8 @@ pub(crate) fn find_first_day<S: Alter>(
 ) -> Result<Day, HistoryFault>
     ensures start { HasCleanDisk (state S.Store conn.new) → IsReady (state S.Store conn.old).now → (first : ℤ) (acts : List Act) → IsHistory first acts → HasRowsOf first acts (state S.Store conn.old).now.trees → today ≡ today_of first acts
         → IfOk result (λ begun. IsStart first acts begun) }
+    ensures foreign { HasCleanDisk (state S.Store conn.new) → IsReady (state S.Store conn.old).now → (first : ℤ) (acts : List Act) → IsHistory first acts → HasRowsOf first acts (state S.Store conn.old).now.trees
+        → IfErr result (IsOfRows (state S.Store conn.old).now.trees) }
     ensures same { HasCleanDisk (state S.Store conn.new) → IsReady (state S.Store conn.old).now → OnOk result (IsUnchanged (state S.Store conn.old) (state S.Store conn.new)) }
     ensures left { HasCleanDisk (state S.Store conn.new) → IsReady (state S.Store conn.old).now → IsUnchanged (state S.Store conn.old) (state S.Store conn.new) ⊎ IsRolledBack (state S.Store conn.old) (state S.Store conn.new) }
     ensures outside { conn.old.in_transaction ≡ false → conn.new.in_transaction ≡ false }
@@ -89,6 +91,8 @@ fn find_start<S: Alter>(
 ) -> Result<Option<Start>, HistoryFault>
     ensures found { HasCleanDisk (state S.Store conn.new) → IsReady (state S.Store conn.old).now → (first : ℤ) (acts : List Act) → IsHistory first acts → HasRowsOf first acts (state S.Store conn.old).now.trees
         → IfOk result (λ found. found ≡ start_of acts) }
+    ensures foreign { HasCleanDisk (state S.Store conn.new) → IsReady (state S.Store conn.old).now → (first : ℤ) (acts : List Act) → IsHistory first acts → HasRowsOf first acts (state S.Store conn.old).now.trees
+        → IfErr result (IsOfRows (state S.Store conn.old).now.trees) }
     ensures same { HasCleanDisk (state S.Store conn.new) → IsReady (state S.Store conn.old).now → OnOk result (IsUnchanged (state S.Store conn.old) (state S.Store conn.new)) }
     ensures left { HasCleanDisk (state S.Store conn.new) → IsReady (state S.Store conn.old).now → IsUnchanged (state S.Store conn.old) (state S.Store conn.new) ⊎ IsRolledBack (state S.Store conn.old) (state S.Store conn.new) }
     ensures outside { conn.old.in_transaction ≡ false → conn.new.in_transaction ≡ false }
@@ -126,6 +130,8 @@ fn card_day<S: Alter>(
 ) -> Result<Day, HistoryFault>
     ensures day { HasCleanDisk (state S.Store conn.new) → IsReady (state S.Store conn.old).now → (first : ℤ) (acts : List Act) → IsHistory first acts → HasRowsOf first acts (state S.Store conn.old).now.trees
         → IfOk result (IsStartBy first acts (Some (Received lot act))) }
+    ensures own { HasCleanDisk (state S.Store conn.new) → IsReady (state S.Store conn.old).now → (first : ℤ) (acts : List Act) → IsHistory first acts → HasRowsOf first acts (state S.Store conn.old).now.trees
+        → start_of acts ≡ Some (Received lot act) → IfErr result (λ fault. fault ≢ Foreign) }
     ensures same { HasCleanDisk (state S.Store conn.new) → IsReady (state S.Store conn.old).now → OnOk result (IsUnchanged (state S.Store conn.old) (state S.Store conn.new)) }
     ensures left { HasCleanDisk (state S.Store conn.new) → IsReady (state S.Store conn.old).now → IsUnchanged (state S.Store conn.old) (state S.Store conn.new) ⊎ IsRolledBack (state S.Store conn.old) (state S.Store conn.new) }
     ensures outside { conn.old.in_transaction ≡ false → conn.new.in_transaction ≡ false }

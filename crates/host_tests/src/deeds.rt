@@ -60,8 +60,8 @@ pub(crate) enum Deed<'a> {
     Line(LineWork<'a>, &'a [u8], bool, usize),
     /// Clients are served.
     Serve(&'a Serving<'a>),
-    /// One client is served, by a clock that is past its time.
-    ServeLate(&'a TcpListener),
+    /// One client is served, by a clock that goes on by so many seconds each time that it is read.
+    ServeLate(&'a TcpListener, u64),
     /// Clients break off.
     BreakOff,
 }
@@ -117,7 +117,7 @@ fn one_done<S: Orderly + Drop>(
             line_done(host, rt, conn, work, input, *room, heard)
         }
         Deed::Serve(serving) => served(host, rt, conn, *serving, heard),
-        Deed::ServeLate(listener) => served_late(rt, alloc, conn, *listener),
+        Deed::ServeLate(listener, seconds) => served_late(rt, alloc, conn, *listener, *seconds),
         Deed::BreakOff => broken_off(rt, alloc, conn),
     }
 }

@@ -12,13 +12,16 @@ use sqlite::{Start, Unknown};
 use std::alloc::Global;
 use std::cell::Cell;
 use std::fs;
-use std::io::{self, Write};
+use std::io::{self, ErrorKind, Write};
 use std::net::TcpListener;
 use std::process::Abort;
 
 const FOLDER: &str = "host_lines";
 
 const DB: &str = "host_lines/stock.db";
+
+// What was left of it when it was cut.
+const PART: &str = "host_lines/part.db";
 
 /// What is done in turn.
 #[derive(Clone, Copy)]
@@ -38,6 +41,9 @@ enum Turn {
     Put(&'static str, &'static [u8]),
     /// A file of the first page alone is put there, as where the making of books stopped after it.
     PutPage,
+    /// The file is cut to so many bytes, or has those bytes that were left.
+    Cut(usize),
+    IsCut,
     /// So many bytes of that page are put there, or are there, the first of which is this.
     PutPart(usize, u8),
     HasPart(usize, u8),
@@ -122,10 +128,19 @@ audit --db host_lines/stock.db => 1 lotd: store|
 apply --db host_lines/stock.db host_lines/more.txt => 1 lotd: store|",
 );
 
-// Where the making of books stopped after the first page, and where an empty file is there, it goes on; a file that is none of
-// books stays as it is, and a port that is taken is told before it is read. Beside a log with something in it no page is
-// laid: a new file then has pages of 4,096 bytes.
-static LAID: [&[Turn]; 8] = [
+// Books that are cut stay as they are. Where the making of books stopped after the first page, and where an empty file is
+// there, it goes on; a file that is none of books stays as it is, and a port that is taken is told before it is read. Beside
+// a log with something in it no page is laid: a new file then has pages of 4,096 bytes.
+static LAID: [&[Turn]; 9] = [
+    &[
+        INIT,
+        Turn::Cut(9_000),
+        ALL_REFUSED,
+        Turn::IsCut,
+        Turn::Cut(1_024),
+        ALL_REFUSED,
+        Turn::IsCut,
+    ],
     &[Turn::PutPage, INIT, Turn::HasPages(1024)],
     &[
         Turn::PutPage,
@@ -328,8 +343,20 @@ fn bytes(host: &HostRuntime, rt: &impl Abort, path: &str) -> Vec<u8> {
     fs::read(host, path).expect(rt, "a file")
 }
 
+fn cut(host: &HostRuntime, rt: &impl Abort, size: usize) {
+    let held = bytes(host, rt, DB);
+    let part = held.as_slice().get(..size).expect(rt, "as many bytes");
+    fs::write(host, DB, part).expect(rt, "a file");
+    fs::write(host, PART, part).expect(rt, "a file");
+}
+
 fn take(host: &HostRuntime, rt: &impl Abort, turn: Turn) {
     match turn {
+        Turn::Cut(size) => cut(host, rt, size),
+        Turn::IsCut => {
+            let part = bytes(host, rt, PART);
+            assert!(rt; bytes(host, rt, DB).as_slice() == part.as_slice());
+        }
         Turn::Lines(lines) => {
             for line in lines.lines() {
                 line_runs(host, rt, line);
@@ -374,6 +401,50 @@ fn every_line_over_a_file(rt: HostRuntime) {
     for turns in LAID.as_slice() {
         take_all(&rt, &rt, turns);
     }
+}
+
+/// An output with a buffer that cannot be written: it takes all, and fails at its flush.
+#[derive(Drop)]
+struct Buffering;
+
+impl Write for Buffering {
+    fn write(&mut self, bytes: &[u8]) -> io::Result<usize> {
+        Ok(bytes.len())
+    }
+
+    fn flush(&mut self) -> io::Result<()> {
+        Err(io::Error::from(ErrorKind::BrokenPipe))
+    }
+}
+
+fn is_lost(host: &HostRuntime, rt: &impl Abort, words: &str) {
+    let words = all_words(rt, host.alloc(), words);
+    let mut told: Vec<u8> = Vec::new(host.alloc());
+    assert!(rt; line_status(host, Unknown, words.as_slice(), &mut Buffering, &mut told) == 1);
+    assert!(rt; told.as_slice() == b"lotd: io\n".as_slice());
+}
+
+// A line whose output is lost says so, and so does a server before it answers anybody: whoever waits for its port would wait
+// for good.
+#[test]
+fn what_is_printed_is_flushed(rt: HostRuntime) {
+    let _ = fs::remove_dir_all(&rt, "unflushed");
+    fs::create_dir(&rt, "unflushed").expect(&rt, "a folder");
+    line_runs(
+        &rt,
+        &rt,
+        "init --db unflushed/stock.db --day 2026-05-04 => 0 -",
+    );
+    is_lost(&rt, &rt, "audit --db unflushed/stock.db");
+    is_lost(
+        &rt,
+        &rt,
+        "label --day 2026-05-04 ]C101095060001343521726093010AB12",
+    );
+    let port = free_port(&rt).expect(&rt, "a port");
+    let words = format!(in rt.alloc(); "serve --db unflushed/stock.db --port {port} --max 1");
+    is_lost(&rt, &rt, words.ok().expect(&rt, "memory").as_str());
+    fs::remove_dir_all(&rt, "unflushed").expect(&rt, "a folder");
 }
 
 /// A log of a server: once a line comes, the file of the books and its log are copied, as they are where the server is killed

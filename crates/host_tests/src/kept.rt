@@ -3,8 +3,8 @@
 use crate::cut::history;
 use crate::deeds::{Deed, Heard, at, books_after, done};
 use crate::serving::{
-    ANSWERED, BIN_MADE, Client, NEW_BIN, PRINTED, SECOND_BIN, SECOND_MADE, SERVER, SYNCED, Serving,
-    TOLD, UNKNOWN_ORDER, WRITTEN,
+    ANSWERED, BIN_MADE, Client, LOGGED, NEW_BIN, PRINTED, SECOND_BIN, SECOND_MADE, SERVER, SYNCED,
+    Serving, TOLD, UNKNOWN_ORDER, WRITTEN,
 };
 use book_trials::{History, Pair, Spread, Stored, line_of, of_act, text_asked};
 use std::alloc::Global;
@@ -61,6 +61,7 @@ impl Keeping {
             Keeping::Serve => Serving {
                 early: CLIENTS.as_slice(),
                 max: 2,
+                log: Some(usize::MAX),
                 acts,
                 ..SERVER
             },
@@ -126,9 +127,25 @@ fn history_after<'a>(rt: &impl Abort, heard: &'a Heard) -> &'a [u8] {
     at(rt, heard, heard.len().saturating_sub(2))
 }
 
+// A server logs each act that stands, and an import none. That of an answer that was not sent has a dash for a status.
+fn is_logged(rt: &impl Abort, keeping: Keeping, heard: &Heard, answered: usize) {
+    let (log, stand) = (
+        at(rt, heard, LINE + LOGGED),
+        count(history_after(rt, heard)),
+    );
+    if let Keeping::Import = keeping {
+        assert!(rt; log.is_empty());
+        return;
+    }
+    assert!(rt; count(log) == stand);
+    assert!(rt; log.starts_with(b"POST /bins 200 98\n") == (answered > 0));
+    assert!(rt; log.ends_with(b"POST /bins - 0\n") == (answered < stand));
+}
+
 // The file is a beginning of the lines, also after a stop, and has those that were answered; the line tells that it ended there.
 fn is_sound(rt: &impl Abort, keeping: Keeping, heard: &Heard) {
     let (lines, answered) = (keeping.lines(), answered(rt, keeping, heard));
+    is_logged(rt, keeping, heard, answered);
     let (written, synced) = (at(rt, heard, LINE + WRITTEN), at(rt, heard, LINE + SYNCED));
     assert!(rt; answered <= count(synced) || answered == count(at(rt, heard, 0)));
     assert!(rt; lines.starts_with(written) && lines.starts_with(synced));

@@ -8,9 +8,9 @@ use book_trials::{Exchange, Stopping, closed, first_day, new_books, opened_books
 use books_schema::ready_connection::{Leftover, Orderly};
 use command_line::{Fault as LineFault, Work as LineWork};
 use house::{Answered, House};
-use line_books::{AfterWork, NotBegun};
 use line_work::do_work;
 use refused_calls::{Call, Told, is_refused};
+use service::{AfterWork, NotBegun};
 use sqlite::{Alter, Connection, MemStore};
 use sqlite_trees::store::Store;
 use std::alloc::Global;

@@ -451,28 +451,35 @@ fn waits_ten_seconds_for_a_client(rt: HostRuntime) {
 }
 
 // More clients than fit into the queue of a port, each of whom comes once the one before is answered.
-#[test]
-fn answers_as_many_as_it_is_told(rt: HostRuntime) {
+fn answers_many(host: &HostRuntime, rt: &impl Abort, acts: Option<(&Stored, u64)>) {
     let serving = Serving {
         late: MANY,
         asked: UNKNOWN_ORDER,
         max: MANY,
         log: Some(usize::MAX),
+        acts,
         ..SERVER
     };
-    let heard = heard_of_serving(&rt, &rt, &serving);
-    assert!(&rt; heard.len() == ANSWERED + MANY as usize && at(&rt, &heard, TOLD).is_empty());
+    let heard = heard_of_serving(host, rt, &serving);
+    assert!(rt; heard.len() == ANSWERED + MANY as usize && at(rt, &heard, TOLD).is_empty());
     for answer in heard.iter().skip(ANSWERED) {
-        assert!(&rt; answer.as_slice() == NO_ORDER);
+        assert!(rt; answer.as_slice() == NO_ORDER);
     }
-    let lines = at(&rt, &heard, LOGGED)
+    let lines = at(rt, &heard, LOGGED)
         .iter()
         .filter(|byte| **byte == b'\n')
         .count();
-    assert!(&rt; lines == MANY as usize);
+    assert!(rt; lines == MANY as usize);
 }
 
-const MANY: u32 = 1_100;
+#[test]
+fn answers_as_many_as_it_is_told(rt: HostRuntime) {
+    let file = Stored::holding(rt.alloc(), Vec::new(rt.alloc())).expect(&rt, "memory");
+    answers_many(&rt, &rt, None);
+    answers_many(&rt, &rt, Some((&file, u64::MAX)));
+}
+
+const MANY: u32 = 2_100;
 
 pub(crate) const UNKNOWN_ORDER: &[u8] = b"GET /orders/S-1 HTTP/1.1\r\n\r\n";
 
@@ -512,37 +519,42 @@ impl Clock for Stepping {
 const NO_HEAD: &[u8] =
     b"HTTP/1.1 400 Bad Request\r\ncontent-type: application/json\r\ncontent-length: 14\r\nconnection: close\r\n\r\n{\"code\":\"W01\"}";
 
-/// Serves one client by a clock that goes on by 16 seconds at each reading.
+/// Serves one client by a clock that goes on by so many seconds at each reading.
 pub(crate) fn served_late<S: Orderly + Drop>(
     rt: &impl Abort,
     alloc: Global,
     conn: Connection<S>,
     listener: &TcpListener,
+    seconds: u64,
 ) -> Connection<S> {
     let mut house = House::new(alloc, opened_books(alloc, conn).expect(rt, "books"));
     let clock = Stepping {
-        seconds: 16,
+        seconds,
         readings: Cell::new(0),
     };
     serve_on(&clock, listener, &mut house, 1);
     house.close().close()
 }
 
+// What a client is answered that sends a head without an end and waits, by a clock that goes on by so many seconds at each
+// reading.
+fn answered_late(host: &HostRuntime, rt: &impl Abort, seconds: u64) -> Vec<u8> {
+    let listener = TcpListener::bind(host, "127.0.0.1:0").expect(rt, "a listener");
+    let port = listener.local_addr().expect(rt, "an address").port();
+    let slow = begun(host, port, b"POST /bins HTTP/1.1\r\n").expect(rt, "a client");
+    let start = Instant::now(host).expect(rt, "a time");
+    let deeds = [Deed::Make, Deed::ServeLate(&listener, seconds)];
+    drop(heard_of(host, rt, deeds.as_slice()));
+    let waited = start.elapsed(host).expect(rt, "a time");
+    assert!(rt; waited.as_secs() < 10, "{} s", waited.as_secs());
+    answer(host.alloc(), slow)
+}
+
 // Of a client whose time is over, what it has sent is all that it sends: here a head that does not end. The clock is read as
 // the client comes, before each read and before each write: at 16 seconds the head is read, at 32 no more is, and at 48
-// there is still time for the answer.
+// there is still time for the answer. By a clock that goes on by 20 seconds there is none any more at 60.
 #[test]
 fn ends_a_client_whose_time_is_over(rt: HostRuntime) {
-    let listener = TcpListener::bind(&rt, "127.0.0.1:0").expect(&rt, "a listener");
-    let port = listener.local_addr().expect(&rt, "an address").port();
-    let slow = begun(&rt, port, b"POST /bins HTTP/1.1\r\n").expect(&rt, "a client");
-    let start = Instant::now(&rt).expect(&rt, "a time");
-    drop(heard_of(
-        &rt,
-        &rt,
-        [Deed::Make, Deed::ServeLate(&listener)].as_slice(),
-    ));
-    let waited = start.elapsed(&rt).expect(&rt, "a time");
-    assert!(&rt; waited.as_secs() < 10, "{} s", waited.as_secs());
-    assert!(&rt; answer(rt.alloc(), slow).as_slice() == NO_HEAD);
+    assert!(&rt; answered_late(&rt, &rt, 16).as_slice() == NO_HEAD);
+    assert!(&rt; answered_late(&rt, &rt, 20).is_empty());
 }

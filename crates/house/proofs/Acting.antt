@@ -1,27 +1,5 @@
 -- What comes of an act, told in bytes.
-use Rattle.std.proofs.Common.{◌≡◌, ℕ, true, false, List, refl, ap, sym, subst, ◌∙◌, inl, inr, ◌⊎◌}
-use Rattle.std.specs.Prelude.{if◌then◌else◌, Bool, ℤ, Result, Ok, Err, OnOk, IsTrue}
-use Rattle.sqlite_trees.specs.declared.store.Store.{Ghosts}
-use Rattle.sqlite_trees.specs.Tree.{Trees}
-use Rattle.sqlite.specs.Held.{state}
-use Rattle.sqlite.specs.State.{Survives}
-use Rattle.label.specs.Labels.{label_read}
-use Rattle.label.specs.declared.gs1.Label.{Label}
-use Rattle.values.specs.declared.fault.LabelFault.{LabelFault}
-use Rattle.commands.specs.Refusals.{refusal_code}
-use Rattle.machine.specs.Acts.{Act}
-use Rattle.machine.specs.Standing.{today}
-use Rattle.machine.specs.Once.{Accepted, Repeated, outcome, appended, acts_after, IsHistory, IsSoundRequest}
-use Rattle.machine.proofs.histories.Runs.{history_after}
-use Rattle.wire.specs.Shorts.{code_text}
-use Rattle.store.specs.Connected.{Connected}
-use Rattle.store.specs.declared.reply.Reply.{Reply}
-use Rattle.store.specs.declared.fault.Fault.{Fault}
-use Rattle.store.specs.declared.fault.Fault.TheVariants.{Refused, Store, Foreign}
-use Rattle.store.specs.Books.{AreBooks, KeepsBooks, HoldsBooks, LeavesOnly, MayLeave, IsClean}
-use Rattle.store.specs.Acting.{IsActed}
-use Rattle.house.specs.Answers.{short_answer, outcome_answer, not_served, is_served, act_answer, acts_with, Delivered, scan_answer, acts_scanned}
-use Rattle.house.specs.Asking.{told_answer, IsDone, IsUndone, scanned_answer, scanned_acts}
+use Rattle.house.proofs.Words.{◌≡◌, ℕ, true, false, List, refl, ap, sym, subst, ◌∙◌, inl, inr, ◌⊎◌, if◌then◌else◌, Bool, ℤ, Result, Ok, Err, OnOk, IsTrue, Ghosts, Trees, state, Survives, label_read, Label, LabelFault, refusal_code, Act, today, Accepted, Repeated, outcome, appended, acts_after, IsHistory, IsSoundRequest, history_after, code_text, Connected, Reply, Fault, Refused, Store, Foreign, AreBooks, KeepsBooks, HoldsBooks, LeavesOnly, MayLeave, IsClean, IsActed, short_answer, outcome_answer, not_served, is_served, act_answer, acts_with, Delivered, scan_answer, acts_scanned, told_answer, IsDone, IsUndone, scanned_answer, scanned_acts}
 
 -- a reply is answered alike the first time and when it comes again
 reply_told : (repeated : Bool) (text : List ℕ) → outcome_answer (if repeated then Repeated text else Accepted text) ≡ short_answer 200 text

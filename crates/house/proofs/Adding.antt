@@ -1,30 +1,6 @@
 -- A step adds acts to those that were there, and takes none away.
-use Rattle.std.proofs.Common.{◌≡◌, true, false, List, [], ◌∷◌, ◌++◌, refl, ap, subst, sym, inl, inr, ◌∙◌, append_assoc}
-use Rattle.std.specs.Prelude.{Bool, if◌then◌else◌, ℕ, Option, Some, None, Result, Ok, Err, ℤ}
-use Rattle.label.specs.Labels.{label_read}
-use Rattle.label.specs.declared.gs1.Label.{Label}
-use Rattle.values.specs.declared.fault.LabelFault.{LabelFault}
-use Rattle.commands.specs.declared.key.Key.{Key}
-use Rattle.commands.specs.declared.command.Command.{Command}
-use Rattle.commands.specs.declared.refusal.Refusal.{Refusal}
-use Rattle.machine.specs.Acts.{Act}
-use Rattle.machine.specs.Standing.{today}
-use Rattle.machine.specs.Once.{Outcome, Accepted, Repeated, Refused, outcome, appended, Tally, tallied, unless_refused, all_tallied, acts_if_taken}
-use Rattle.goodsin.specs.Files.{file_read}
-use Rattle.goodsin.specs.declared.fault.FileFault.{FileFault}
-use Rattle.store.specs.Filing.{rows_of}
-use Rattle.requests.specs.Requests.{IsReading}
-use Rattle.requests.specs.declared.ask.Ask.{Ask}
-use Rattle.requests.specs.declared.ask.Ask.TheVariants.{Do, Scan, GoodsIn, Show}
-use Rattle.requests.specs.declared.ask.Query.{Query}
-use Rattle.requests.specs.declared.request.Read.{Read}
-use Rattle.requests.specs.declared.request.Read.TheVariants.{Need, Bad, Request}
-use Rattle.requests.proofs.OneReading.{one_reading}
-use Rattle.house.specs.Answers.{is_served, acts_with, Delivered, receipt, acts_scanned, acts_filed, acts_asked, acts_of}
-use Rattle.house.specs.House.{Step, Run, IsInPlace, bytes_of}
-use Rattle.house.specs.Keeping.{TellsNoAct}
-use Rattle.house.specs.declared.answered.Answered.{Answered}
-use Rattle.house.specs.declared.answered.Answered.TheVariants.{Short, Long}
+use Rattle.house.proofs.Words.{◌≡◌, true, false, List, [], ◌∷◌, ◌++◌, refl, ap, subst, sym, inl, inr, ◌∙◌, append_assoc, Bool, if◌then◌else◌, ℕ, Option, Some, None, Result, Ok, Err, ℤ, label_read, Label, LabelFault, Key, Command, Refusal, Act, today, Outcome, Accepted, Repeated, outcome, appended, Tally, tallied, unless_refused, all_tallied, acts_if_taken, file_read, FileFault, rows_of, IsReading, Ask, Do, Scan, GoodsIn, Show, Query, Read, Need, Bad, Request, one_reading, is_served, acts_with, Delivered, receipt, acts_scanned, acts_filed, acts_asked, acts_of, Step, Run, IsInPlace, bytes_of, TellsNoAct, Answered, Short, Long}
+use Rattle.machine.specs.Once.{Refused}
 use Rattle.house.proofs.StepLaws.{refused_requests_change_nothing}
 
 -- the acts are these and newer ones

@@ -1,20 +1,7 @@
 -- Worked examples: what readings are answered, and the acts after them.
-use Rattle.std.specs.Prelude.{◌≡◌, ℕ, List, [], ◌++◌, codes, refl}
 use Rattle.std.specs.Fmt.{digits}
+use Rattle.house.proofs.Words.{◌≡◌, ℕ, List, [], ◌++◌, codes, refl, date_of, date_after, date_in_year, dates_on_literals, spelling, Plain, Line, Item, OpenDay, may_4, warehouse, with_one_lot, with_stock, with_one_order, with_early_lot, OATS, A1, S1, order, Length, Do, Scan, Show, Order, Stock, PickList, Read, Need, Request, CRLF, head_text, short_answer, not_served, no_memory, answer_of, acts_of}
 use Rattle.serde_json.proofs.OnLiterals.{serde_json_on_literals}
-use Rattle.label.specs.Days.{date_of, date_after, date_in_year}
-use Rattle.label.proofs.OnLiterals.{dates_on_literals}
-use Rattle.commands.specs.Spelling.{spelling}
-use Rattle.commands.specs.declared.key.Key.TheVariants.{Plain, Line}
-use Rattle.commands.specs.declared.command.Command.TheVariants.{Item, OpenDay}
-use Rattle.machine.proofs.examples.ExampleHistories.{may_4, warehouse, with_one_lot, with_stock, with_one_order, with_early_lot, OATS, A1, S1, order}
-use Rattle.requests.specs.declared.fault.WireFault.TheVariants.{Length}
-use Rattle.requests.specs.declared.ask.Ask.TheVariants.{Do, Scan, Show}
-use Rattle.requests.specs.declared.ask.Query.TheVariants.{Order, Stock, PickList}
-use Rattle.requests.specs.declared.request.Read.{Read}
-use Rattle.requests.specs.declared.request.Read.TheVariants.{Need, Request}
-use Rattle.wire.specs.Answers.{CRLF, head_text}
-use Rattle.house.specs.Answers.{short_answer, not_served, no_memory, answer_of, acts_of}
 
 abbrev label_of : List ℕ → List ℕ → List ℕ
 label_of yymmdd lot = codes "01" ++ OATS ++ codes "17" ++ yymmdd ++ codes "10" ++ lot

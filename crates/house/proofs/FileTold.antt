@@ -1,33 +1,9 @@
 -- What comes of a goods-in file, told in bytes.
-use Rattle.std.proofs.Common.{◌≡◌, ◌≢◌, ℕ, List, refl, ap, sym, subst, ◌∙◌, inl, inr, ◌⊎◌}
-use Rattle.std.specs.Prelude.{ℤ, Option, Some, None, Result, Ok, Err, OnOk, All, IsTrue}
-use Rattle.std.proofs.lemmas.List.Elements.{All-weaker}
-use Rattle.sqlite_trees.specs.declared.store.Store.{Ghosts}
-use Rattle.sqlite_trees.specs.Tree.{Trees}
-use Rattle.sqlite.specs.Held.{state}
-use Rattle.sqlite.specs.State.{Survives}
-use Rattle.commands.specs.declared.refusal.Refusal.{Refusal}
-use Rattle.commands.specs.declared.key.Key.{Key}
-use Rattle.commands.specs.declared.key.Key.TheVariants.{Line}
-use Rattle.commands.specs.declared.command.Command.{Command}
-use Rattle.commands.specs.declared.command.Command.TheVariants.{Receive}
-use Rattle.machine.specs.Acts.{Act}
-use Rattle.machine.specs.Standing.{today}
+use Rattle.house.proofs.Words.{◌≡◌, ◌≢◌, ℕ, List, refl, ap, sym, subst, ◌∙◌, inl, inr, ◌⊎◌, ℤ, Option, Some, None, Result, Ok, Err, OnOk, All, IsTrue, All-weaker, Ghosts, Trees, state, Survives, Refusal, Key, Line, Command, Receive, Act, today, IsHistory, RefusedRow, file_outcome, file_outcome_of, acts_after_file, acts_if_taken, is_key_of, IsReceipt, file_read, FileFault, Header, Row, TooManyRows, Reader, Connected, RowFault, AreBooks, KeepsBooks, HoldsBooks, LeavesOnly, MayLeave, IsClean, rows_of, AreKeysOf, IsFiled, file_fault_code, no_memory, cause_answer, file_outcome_answer, file_fault_answer, file_answer, acts_filed, told_file_answer, IsDone, IsUndone}
 use Rattle.machine.specs.Once as once
-use Rattle.machine.specs.Once.{IsHistory, RefusedRow, file_outcome, file_outcome_of, acts_after_file, acts_if_taken, is_key_of}
-use Rattle.goodsin.specs.Rows.{IsReceipt}
-use Rattle.goodsin.specs.Files.{file_read}
-use Rattle.goodsin.specs.declared.fault.FileFault.{FileFault}
-use Rattle.goodsin.specs.declared.fault.FileFault.TheVariants.{Header, Row, TooManyRows, Length, Reader, Memory}
-use Rattle.store.specs.Connected.{Connected}
+use Rattle.goodsin.specs.declared.fault.FileFault.TheVariants.{Length, Memory}
 use Rattle.store.specs.declared.tally.Tally.{Tally}
-use Rattle.store.specs.declared.tally.RowFault.{RowFault}
 use Rattle.store.specs.declared.tally.RowFault.TheVariants.{Refused, Store, Foreign}
-use Rattle.store.specs.Books.{AreBooks, KeepsBooks, HoldsBooks, LeavesOnly, MayLeave, IsClean}
-use Rattle.store.specs.Filing.{rows_of, AreKeysOf, IsFiled}
-use Rattle.goodsin.specs.Faults.{file_fault_code}
-use Rattle.house.specs.Answers.{no_memory, cause_answer, file_outcome_answer, file_fault_answer, file_answer, acts_filed}
-use Rattle.house.specs.Asking.{told_file_answer, IsDone, IsUndone}
 
 -- the keys of receipts are of their kind
 receipt_key : (row : Key × Command) → IsReceipt row → IsTrue (is_key_of row.0 row.1)

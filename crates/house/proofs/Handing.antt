@@ -1,12 +1,5 @@
 -- What a sink has written of the records that were handed to it: all of them, or a beginning.
-use Rattle.std.proofs.Common.{List, [], ◌∷◌, ◌++◌, ℕ, Option, subst, sym, ap, ◌∙◌}
-use Rattle.std.specs.Prelude.{flat_map}
-use Rattle.std.specs.Io.KnownBytes.{Appends}
-use Rattle.std.proofs.KnownBytes.{Appends-trans, Appends-nil}
-use Rattle.std.proofs.lemmas.Grind.{flat_map-append}
-use Rattle.commands.specs.Sinks.{Reaches, ReachesWithin, StopsWithin}
-use Rattle.texts.specs.Writing.{AppendsBeginning}
-use Rattle.texts.proofs.Beginnings.{beginning_of_first, beginning_of_second}
+use Rattle.house.proofs.Words.{List, [], ◌∷◌, ◌++◌, ℕ, Option, subst, sym, ap, ◌∙◌, flat_map, Appends, Appends-trans, Appends-nil, flat_map-append, Reaches, ReachesWithin, StopsWithin, AppendsBeginning, beginning_of_first, beginning_of_second}
 
 -- `at` is what the sink's writer holds
 module _ {K T : Type 0} (at : K → Option (List ℕ)) (line : T → List ℕ) (adds cuts : K → T → K → Type 0)

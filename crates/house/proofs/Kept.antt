@@ -1,26 +1,6 @@
 -- What was done, after it was kept.
-use Rattle.std.proofs.Common.{◌≡◌, ◌≢◌, ◌∙◌, ℕ, ◌<◌, List, [], ◌∷◌, ◌++◌, get_or, lit<, arith, refl, sym, ap, subst, inl, inr}
 use Rattle.std.specs.Fmt.{digits}
-use Rattle.std.specs.Prelude.{ℤ, codes, Result, Ok, Err, OnOk, OnErr}
-use Rattle.sqlite_trees.specs.declared.store.Store.{Ghosts}
-use Rattle.sqlite_trees.specs.Tree.{Trees}
-use Rattle.sqlite.specs.Held.{state}
-use Rattle.sqlite.specs.State.{State, Survives}
-use Rattle.machine.specs.Acts.{Act}
-use Rattle.machine.specs.Once.{IsHistory}
-use Rattle.requests.specs.declared.fault.WireFault.{WireFault}
-use Rattle.requests.specs.declared.fault.WireFault.TheVariants.{Head, Length, Json, Field, Path, Method, TooLarge, Memory}
-use Rattle.requests.specs.declared.ask.Ask.TheVariants.{Do, Scan, GoodsIn, Show}
-use Rattle.requests.specs.declared.request.Read.{Read}
-use Rattle.requests.specs.declared.request.Read.TheVariants.{Need, Bad, Request}
-use Rattle.store.specs.Connected.{Connected}
-use Rattle.store.specs.Books.{IsClean, HoldsBooks, AreAsBefore}
-use Rattle.store.proofs.AsBefore.{as_before_then}
-use Rattle.wire.specs.Answers.{head_text}
-use Rattle.house.specs.Answers.{fault_answer, status_of}
-use Rattle.house.specs.House.{Step, Answers, LeavesBooks, IsInPlace, StepsTo, bytes_of}
-use Rattle.house.specs.Keeping.{NoHistory, TellsNoAct, IsKeptIfTold}
-use Rattle.house.specs.declared.answered.Answered.{Answered}
+use Rattle.house.proofs.Words.{◌≡◌, ◌≢◌, ◌∙◌, ℕ, ◌<◌, List, [], ◌∷◌, ◌++◌, get_or, lit<, arith, refl, sym, ap, subst, inl, inr, ℤ, codes, Result, Ok, Err, OnOk, OnErr, Ghosts, Trees, state, State, Survives, Act, IsHistory, WireFault, Head, Length, Json, Field, Path, Method, TooLarge, Memory, Do, Scan, GoodsIn, Show, Read, Need, Bad, Request, Connected, IsClean, HoldsBooks, AreAsBefore, as_before_then, head_text, fault_answer, no_memory, status_of, Step, Answers, LeavesBooks, IsInPlace, StepsTo, bytes_of, NoHistory, TellsNoAct, IsKeptIfTold, Answered}
 use Rattle.house.proofs.Adding.{step_adds, untold_adds_none}
 
 pub survives_itself : (s : State) (P : Trees → Type 0) → Survives s s P
@@ -47,6 +27,15 @@ fault_unlike Path = unlike (fault_answer Path) 52 refl (lit< tt)
 fault_unlike (Method m) = unlike (fault_answer (Method m)) 52 refl (lit< tt)
 fault_unlike TooLarge = unlike (fault_answer TooLarge) 52 refl (lit< tt)
 fault_unlike Memory = unlike (fault_answer Memory) 53 refl (lit< tt)
+
+-- so has the answer for want of memory
+pub no_memory_unlike : (bytes : List ℕ) → bytes ≡ no_memory → status_of bytes ≢ codes "HTTP/1.1 200"
+no_memory_unlike bytes is e = fault_unlike Memory (sym (ap status_of is) ∙ e)
+
+-- what cannot fail does not
+pub never_fails : {E : Type 0} (r : Result Unit E) → OnErr r ⊥ → r ≡ Ok tt
+never_fails (Ok done) none = refl
+never_fails (Err fault) none = absurd none
 
 module _ {S : Type 0} (g : Ghosts S) (was mid new : Connected S) where
   -- what was answered before it was kept
@@ -89,6 +78,13 @@ keeps_on first old text answer after end Is Keeps place step is keeps =
     let more = step_adds first old text (bytes_of answer) after step in
     subst (λ l. OnOk end (Keeps l)) (sym more.1)
     (keeps more.0 (subst Is more.1 is) (λ other. sym more.1 ∙ untold_adds_none first old text answer after place step other))
+
+-- where they could not be, a stop leaves those before and part of what was being added
+pub leaves_on : {E : Type 0} (first : ℤ) (old : List Act) (text bytes : List ℕ) (after : List Act) (end : Result Unit E) (Is : List Act → Type 0) (Leaves : List Act → Type 0)
+    → Step first old text bytes after → Is after → ((newer : List Act) → Is (newer ++ old) → OnErr end (Leaves (newer ++ old))) → OnErr end (Leaves after)
+leaves_on first old text bytes after end Is Leaves step is leaves =
+    let more = step_adds first old text bytes after step in
+    subst (λ l. OnErr end (Leaves l)) (sym more.1) (leaves more.0 (subst Is more.1 is))
 
 pub kept_if_told : {S E : Type 0} (g : Ghosts S) (first : ℤ) (Keeps : List Act → Type 0) (books : Connected S) (Untold : Type 0) (end : Result Unit E) (after : List Act)
     → IsHistory first after → HoldsBooks g first after books → OnOk end (Keeps after) → OnErr end Untold → IsKeptIfTold g first Keeps books Untold

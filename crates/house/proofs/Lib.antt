@@ -1,3 +1,4 @@
+mod Words
 pub mod Acting
 pub mod Examples
 pub mod Running

@@ -1,20 +1,6 @@
 -- A card or a notice that was written into memory, told in bytes.
-use Rattle.std.proofs.Common.{◌≡◌, ℕ, List, [], Some, Ok, Err, Result, refl, ap, sym, ◌∙◌, inl, inr, ◌⊎◌}
-use Rattle.std.specs.Prelude.{ℤ}
-use Rattle.sqlite_trees.specs.declared.store.Store.{Ghosts}
-use Rattle.commands.specs.declared.refusal.Refusal.{Refusal}
-use Rattle.machine.specs.Acts.{Act}
-use Rattle.machine.specs.Once.{IsHistory}
-use Rattle.wire.specs.Answers.{answer_bytes}
-use Rattle.wire.specs.declared.answer.Answer.{Answer}
-use Rattle.wire.specs.declared.answer.Answer.TheVariants.{Text}
-use Rattle.store.specs.Connected.{Connected}
-use Rattle.store.specs.declared.fault.Fault.TheVariants.{Refused, Store, Foreign}
-use Rattle.store.specs.declared.each_fault.EachFault.{EachFault}
-use Rattle.store.specs.declared.each_fault.EachFault.TheVariants.{Fault, Stopped}
-use Rattle.house.specs.Answers.{no_memory, view_answer}
-use Rattle.house.specs.Asking.{asked_answer, IsDone, IsUndone}
-use Rattle.house.specs.LotTexts.{Stays, Tells, text_answer}
+use Rattle.house.proofs.Words.{◌≡◌, ℕ, List, [], Some, Ok, Err, Result, refl, ap, sym, ◌∙◌, inl, inr, ◌⊎◌, ℤ, Ghosts, Refusal, Act, IsHistory, answer_bytes, Answer, Text, Connected, Refused, Store, Foreign, EachFault, Stopped, no_memory, view_answer, asked_answer, IsDone, IsUndone, Stays, Tells, text_answer}
+use Rattle.store.specs.declared.each_fault.EachFault.TheVariants.{Fault}
 
 module _ {S V : Type 0} (g : Ghosts S) (first : ℤ) (acts : List Act) (history : IsHistory first acts) (text : V → List ℕ) (shown : Result V Refusal) (old books : Connected S) where
   abbrev answer : V → Answer

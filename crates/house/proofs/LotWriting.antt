@@ -1,47 +1,6 @@
--- The stock card and the recall notice of a lot, written part after part.
-use Rattle.std.proofs.Common.{◌≡◌, ℕ, ◌+◌, List, ◌++◌, Option, Some, None, Ok, Err, Result, refl, sym, ap, subst, ◌∙◌, inl, inr, append_assoc, zero-add}
-use Rattle.std.specs.Prelude.{ℤ, Bool, true, false, if◌then◌else◌, flat_map, OnOk}
-use Rattle.std.specs.Io.KnownBytes.{Appends}
-use Rattle.std.proofs.KnownBytes.{Appends-trans}
-use Rattle.values.specs.declared.lot.LotId.{LotId}
-use Rattle.commands.specs.Cards.{rest_after}
-use Rattle.commands.specs.Lists.{total}
-use Rattle.commands.specs.Sinks.{Reaches}
-use Rattle.commands.specs.declared.refusal.Refusal.{Refusal}
-use Rattle.commands.specs.declared.refusal.Refusal.TheVariants.{UnknownItem, UnknownLot, NoNotice}
-use Rattle.commands.specs.declared.rows.ItemRow.{ItemRow}
-use Rattle.commands.specs.declared.views.BinUnits.{BinUnits}
-use Rattle.commands.specs.declared.views.CardView.{CardView}
-use Rattle.commands.specs.declared.views.NoticeView.{NoticeView}
-use Rattle.commands.specs.declared.views.ShippedUnits.{ShippedUnits}
-use Rattle.sqlite_trees.specs.declared.store.Store.{Ghosts}
-use Rattle.sqlite.specs.Held.{state}
-use Rattle.sqlite.specs.State.{Survives}
-use Rattle.machine.specs.Acts.{Act}
-use Rattle.machine.specs.Once.{IsHistory}
-use Rattle.machine.specs.Cards.{lot_units_in_house}
-use Rattle.machine.specs.Standing.{KnownLot, lots, lot_known, is_recalled}
-use Rattle.machine.specs.Tables.{item_row}
-use Rattle.machine.specs.Queries.{if_known, card_shown, notice_shown}
-use Rattle.machine.specs.Views.{card_of_lot, bins_of_lot, shipments_of_lot, card_view, notice_view}
-use Rattle.machine.proofs.histories.Lots.{found_lot}
-use Rattle.machine.proofs.histories.LastLines.{last_line_tells_units}
-use Rattle.texts.specs.declared.fault.TextFault.{TextFault}
-use Rattle.texts.specs.Card.{card_text, card_start, card_line, card_end}
-use Rattle.texts.specs.Notice.{notice_text, notice_start, bin_line, shipment_line, notice_end, Totals}
-use Rattle.texts.specs.declared.sinks.NoticeLines.{NoticeLines}
-use Rattle.texts.specs.Sinks.{AddsBinLine, AddsShipmentLine, CutsShipmentLine}
-use Rattle.texts.specs.Writing.{AppendsBeginning, Writes}
-use Rattle.texts.proofs.Lined.{bins_lined, shipments_lined}
-use Rattle.texts.proofs.Beginnings.{beginning_of_first, beginning_of_second}
-use Rattle.store.specs.Connected.{Connected}
-use Rattle.store.specs.Books.{HoldsBooks, IsClean}
-use Rattle.store.specs.Handing.{HandsRecords, IsHanded, NoBooks}
-use Rattle.store.specs.Heads.{head_of_card, head_of_notice, card_head_shown, notice_head_shown}
-use Rattle.store.specs.declared.fault.Fault.TheVariants.{Refused, Store, Foreign}
-use Rattle.store.specs.declared.each_fault.EachFault.{EachFault}
-use Rattle.store.specs.declared.each_fault.EachFault.TheVariants.{Fault, Stopped}
-use Rattle.house.specs.LotTexts.{card_from, notice_from, Stays, Puts, Tells, shown_text, stopped_at}
+-- The stock card of a lot, written part after part, and texts that are written at once.
+use Rattle.house.proofs.Words.{◌≡◌, ℕ, ◌+◌, List, ◌++◌, Option, Some, None, Ok, Err, Result, refl, sym, ap, subst, ◌∙◌, inl, inr, append_assoc, ℤ, flat_map, Appends, Appends-trans, LotId, rest_after, Refusal, UnknownItem, UnknownLot, ItemRow, CardView, Ghosts, state, Survives, Act, IsHistory, lot_units_in_house, KnownLot, lots, lot_known, item_row, if_known, card_shown, card_of_lot, card_view, found_lot, last_line_tells_units, TextFault, card_text, card_start, card_line, card_end, AppendsBeginning, Writes, beginning_of_first, beginning_of_second, Connected, HoldsBooks, IsClean, IsHanded, NoBooks, head_of_card, card_head_shown, Refused, Store, Foreign, EachFault, Stopped, card_from, Stays, Puts, Tells, shown_text, stopped_at}
+use Rattle.store.specs.declared.each_fault.EachFault.TheVariants.{Fault}
 use Rattle.house.proofs.Handing.{all_written, some_written, cut_written}
 
 module _ {S : Type 0} (g : Ghosts S) (first : ℤ) (acts : List Act) where
@@ -128,18 +87,16 @@ module _ {S : Type 0} (g : Ghosts S) (first : ℤ) (acts : List Act) where
   told_whole text shown view a b r was mid books old between new is whole stays written h =
       told_by text shown view r was books old new is (subst (λ t. Puts g first acts t was books old new r) whole (put_behind r a b was mid books old between new written stays h))
 
+  -- it was written by one call
+  pub told_at_once : {V : Type 0} (text : V → List ℕ) (shown : Result V Refusal) (view : V) (r : Result Unit TextFault) (was books : Connected S) (old new : Option (List ℕ)) → shown ≡ Ok view
+      → Stays g first acts was books → Writes r old new (text view) → Tells g first acts text shown was books old new (stopped_at r)
+  told_at_once text shown view (Ok done) was books old new is stays written = (view, is, written, stays)
+  told_at_once text shown view (Err fault) was books old new is stays written = (view, is, written, stays)
+
   -- its start was not written whole
   pub told_cut : {V : Type 0} (text : V → List ℕ) (shown : Result V Refusal) (view : V) (a b : List ℕ) (was books : Connected S) (old new : Option (List ℕ))
       → shown ≡ Ok view → a ++ b ≡ text view → Stays g first acts was books → AppendsBeginning old new a → Tells g first acts text shown was books old new (Err Stopped)
   told_cut text shown view a b was books old new is whole stays written = (view, is, subst (AppendsBeginning old new) whole (beginning_of_first old new a b written), stays)
-
--- the units of the bins and of the shipments that a notice tells of
-pub both_counted : {W : Type 0} (at : W → Option (List ℕ)) (r : Result Unit EachFault) (bins : List BinUnits) (shipments : List ShippedUnits) (before between after : NoticeLines W)
-    → Reaches (AddsBinLine at) before bins between → HandsRecords (AddsShipmentLine at) (CutsShipmentLine at) shipments between after r
-    → OnOk r (after.text ≡ record { in_bins = before.text.in_bins + total (λ u. u.qty) bins; shipped = before.text.shipped + total (λ s. s.qty) shipments })
-both_counted at (Ok done) bins shipments before between after reached h =
-    (shipments_lined at between shipments after h).1 ∙ ap (λ (t : Totals). record t { shipped = t.shipped + total (λ s. s.qty) shipments }) (bins_lined at before bins between reached).1
-both_counted at (Err fault) bins shipments before between after reached h = tt
 
 -- Cards
 
@@ -183,44 +140,3 @@ module _ (first : ℤ) (acts : List Act) (l : LotId) where
       let lines = card_of_lot first acts l in
       sym (append_assoc (card_start item l.lot expiry) (flat_map card_line lines) (card_end (rest_after n lines)))
       ∙ ap (λ m. card_start item l.lot expiry ++ flat_map card_line lines ++ card_end m) (ap (λ m. rest_after m lines) none ∙ last_line_tells_units first acts l)
-
-  -- Notices
-
-  abbrev notice_shows : NoticeView → Result NoticeView Refusal
-  notice_shows v = Ok v
-
-  notice_by : (shown : Result NoticeView Refusal) (row : ItemRow) (expiry : Option ℤ) → ((view : NoticeView) → shown ≡ Ok view → view ≡ notice_from first acts l view.item view.expiry)
-      → head_of_notice shown ≡ Ok (row, expiry) → shown ≡ Ok (notice_from first acts l row expiry)
-  unfolding item_of day_of
-  notice_by (Err why) row expiry own e = absurd (let it = e in cc)
-  notice_by (Ok view) row expiry own e =
-      ap notice_shows (own view refl) ∙ ap (λ (i : ItemRow). notice_shows (notice_from first acts l i view.expiry)) (ap (item_of row) e)
-      ∙ ap (λ (d : Option ℤ). notice_shows (notice_from first acts l row d)) (ap (day_of expiry) e)
-
-  notice_own : (item : Option ItemRow) (recalled : Bool) (view : NoticeView) → if_known item UnknownItem (λ i. if recalled then Ok (notice_view first acts i l) else Err NoNotice) ≡ Ok view
-      → view ≡ notice_from first acts l view.item view.expiry
-  notice_own None recalled view e = absurd (let it = e in cc)
-  notice_own (Some i) false view e = absurd (let it = e in cc)
-  notice_own (Some i) true view e =
-      let same : notice_view first acts i l ≡ view = cc in
-      subst (λ (v : NoticeView). v ≡ notice_from first acts l v.item v.expiry) same refl
-
-  -- the notice with the head that was read
-  pub notice_with_head : (item : ItemRow) (expiry : Option ℤ) → notice_head_shown first acts l ≡ Ok (item, expiry) → notice_shown first acts l ≡ Ok (notice_from first acts l item expiry)
-  notice_with_head item expiry = notice_by (notice_shown first acts l) item expiry (notice_own (item_row acts l.gtin) (is_recalled acts l))
-
-  -- the start, the bins, the shipments and the end are the notice
-  pub notice_whole : (item : ItemRow) (expiry : Option ℤ) (t : Totals) → t ≡ record { in_bins = 0; shipped = 0 }
-      → notice_start item l.lot expiry ++ (flat_map bin_line (bins_of_lot first acts l) ++ flat_map shipment_line (shipments_of_lot first acts l)
-      ++ notice_end (t.in_bins + total (λ u. u.qty) (bins_of_lot first acts l)) (t.shipped + total (λ s. s.qty) (shipments_of_lot first acts l)))
-      ≡ notice_text (notice_from first acts l item expiry)
-  notice_whole item expiry t none =
-      let head = notice_start item l.lot expiry in
-      let b = flat_map bin_line (bins_of_lot first acts l) in
-      let s = flat_map shipment_line (shipments_of_lot first acts l) in
-      let n = total (λ u. u.qty) (bins_of_lot first acts l) in
-      let m = total (λ x. x.qty) (shipments_of_lot first acts l) in
-      let end = notice_end (t.in_bins + n) (t.shipped + m) in
-      sym (append_assoc head (b ++ s) end) ∙ sym (ap (λ k. k ++ end) (append_assoc head b s))
-      ∙ ap (λ (x : Totals). head ++ b ++ s ++ notice_end (x.in_bins + n) (x.shipped + m)) none
-      ∙ ap (λ k. head ++ b ++ s ++ notice_end k (0 + m)) (zero-add n) ∙ ap (λ k. head ++ b ++ s ++ notice_end n k) (zero-add m)

@@ -1,10 +1,5 @@
 -- The first bytes of an answer of status 200.
-use Rattle.std.proofs.Common.{◌≡◌, ◌≢◌, ◌∙◌, ℕ, Bool, true, false, List, sym}
-use Rattle.std.specs.Prelude.{◌==◌, codes}
-use Rattle.std.specs.List.{starts_with}
-use Rattle.std.proofs.lemmas.Bool.Decides.{Decides-eqb}
-use Rattle.std.proofs.lemmas.Slice.Eq.{slice_eq-Decides}
-use Rattle.house.specs.Answers.{status_of}
+use Rattle.house.proofs.Words.{◌≡◌, ◌≢◌, ◌∙◌, ℕ, Bool, true, false, List, sym, ◌==◌, codes, starts_with, Decides-eqb, slice_eq-Decides, status_of}
 
 pub begins_ok : (bytes : List ℕ) (r : Bool) → r ≡ starts_with (λ a b. a == b) bytes (codes "HTTP/1.1 200") → (r ≡ true → status_of bytes ≡ codes "HTTP/1.1 200") × (r ≡ false → status_of bytes ≢ codes "HTTP/1.1 200")
 begins_ok bytes r is =

@@ -1,17 +1,6 @@
 -- Runs over texts.
-use Rattle.std.proofs.Common.{◌≡◌, ℕ, ◌+◌, ◌<◌, List, [], ◌∷◌, ◌++◌, length, take, get_or, refl, ap, sym, subst, ◌∙◌, add-one, append_assoc}
-use Rattle.std.proofs.Math.Seq.{take-suc}
-use Rattle.std.proofs.lemmas.List.{map-append}
-use Rattle.std.specs.Prelude.{ℤ, map, zip, Vec}
-use Rattle.machine.specs.Acts.{Act}
-use Rattle.machine.specs.Once.{IsHistory}
-use Rattle.sqlite_trees.specs.declared.store.Store.{Ghosts}
-use Rattle.sqlite.specs.Held.{state}
-use Rattle.store.specs.Connected.{Connected}
-use Rattle.store.specs.Books.{HoldsBooks}
-use Rattle.house.specs.House.{Step, Run, StepsTo, RunsTo, LeavesBooks, texts_of, bytes_of}
+use Rattle.house.proofs.Words.{◌≡◌, ℕ, ◌+◌, ◌<◌, List, [], ◌∷◌, ◌++◌, length, take, get_or, refl, ap, sym, subst, ◌∙◌, add-one, append_assoc, take-suc, map-append, ℤ, map, zip, Vec, Act, IsHistory, Ghosts, state, Connected, HoldsBooks, Step, Run, StepsTo, RunsTo, LeavesBooks, texts_of, bytes_of, Answered}
 use Rattle.house.proofs.Stepping.{leaves_more}
-use Rattle.house.specs.declared.answered.Answered.{Answered}
 
 -- a run, and one step more
 pub one_more : (first : ℤ) (old : List Act) (texts answers : List (List ℕ)) (mid : List Act) (text bytes : List ℕ) (new : List Act)

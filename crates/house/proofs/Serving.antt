@@ -1,18 +1,5 @@
 -- What is read of a reader and written to a writer.
-use Rattle.std.proofs.Common.{◌≡◌, ◌≢◌, ◌∙◌, ℕ, false, List, [], ◌++◌, Option, Ok, Err, refl, sym, ap, subst, inl, inr, ◌⊎◌, append-nil}
-use Rattle.std.specs.Prelude.{Result}
-use Rattle.std.specs.Io.KnownBytes.{Appends, IsAtEnd}
-use Rattle.requests.specs.Requests.{IsReading}
-use Rattle.requests.specs.Laws.{needs_more}
-use Rattle.requests.specs.declared.fault.WireFault.TheVariants.{Head, Length, Json, Field, Path, Method, TooLarge, Memory}
-use Rattle.requests.specs.declared.request.Read.{Read}
-use Rattle.requests.specs.declared.request.Read.TheVariants.{Need, Bad, Request}
-use Rattle.house.specs.Answers.{no_memory}
-use Rattle.texts.specs.Writing.{Writes}
-use Rattle.wire.specs.declared.serving.ServeFault.{ServeFault}
-use Rattle.wire.specs.Logging.{log_line}
-use Rattle.wire.proofs.LogLines.{line_of_beginning, begun_by}
-use Rattle.house.specs.Serving.{IsWhole, HasLine, IsLogged}
+use Rattle.house.proofs.Words.{◌≡◌, ◌≢◌, ◌∙◌, ℕ, false, List, [], ◌++◌, Option, Ok, Err, refl, sym, ap, subst, inl, inr, ◌⊎◌, append-nil, Result, OnErr, Appends, IsAtEnd, IsReading, needs_more, Head, Length, Json, Field, Path, Method, TooLarge, Memory, Read, Need, Bad, Request, no_memory, Writes, ServeFault, log_line, line_of_beginning, begun_by, IsWhole, HasLine, IsLogged, sent_of}
 
 settled_text : (text bytes : List ℕ) (to : Option (List ℕ)) (r : Read) → IsReading text r → needs_more r ≡ false → IsWhole text to ⊎ (bytes ≡ no_memory)
 settled_text text bytes to r read n = inl (inl (r, read, n))
@@ -57,3 +44,12 @@ logs end old new text kept lost seen written bytes r parts is_kept is_bytes memo
     subst (λ t. IsLogged end old new t bytes) (sym parts)
     (logged old new bytes kept lost end (answered_no_memory lost bytes r memory some)
     (subst (λ b. Writes end old new (log_line kept b)) is_bytes (subst (λ t. Writes end old new (log_line t written)) is_kept h)))
+
+-- the same, of what was sent: what is not sent was asked for, and then all of the text is kept
+pub logs_sent : {X Y E F : Type 0} (kept : Result Y F) (end : Result X E) (old new : Option (List ℕ)) (text front lost seen written bytes : List ℕ) (r : Read) → text ≡ front ++ lost → seen ≡ front → written ≡ sent_of kept bytes
+    → (r ≡ Bad Memory → bytes ≡ no_memory) → (bytes ≡ no_memory → OnErr kept ⊥) → (lost ≡ []) ⊎ (r ≡ Bad Memory) → Writes end old new (log_line seen written) → IsLogged end old new text (sent_of kept bytes)
+logs_sent (Ok done) end old new text front lost seen written bytes r parts is_front is_sent memory sends some h = logs end old new text front lost seen written bytes r parts is_front is_sent memory some h
+logs_sent (Err fault) end old new text front lost seen written bytes r parts is_front is_sent memory sends (inr is) h = absurd (sends (memory is))
+logs_sent (Err fault) end old new text front lost seen written bytes r parts is_front is_sent memory sends (inl none) h =
+    subst (λ t. IsLogged end old new t []) (sym parts)
+    (logged old new [] front lost end (inl none) (subst (λ b. Writes end old new (log_line front b)) is_sent (subst (λ t. Writes end old new (log_line t written)) is_front h)))

@@ -1,23 +1,5 @@
 -- What comes of a query, told in bytes.
-use Rattle.std.proofs.Common.{◌≡◌, ℕ, List, refl, ap, sym, subst, ◌∙◌, inl, inr, ◌⊎◌}
-use Rattle.std.specs.Prelude.{ℤ, Result, Ok, Err}
-use Rattle.sqlite_trees.specs.declared.store.Store.{Ghosts}
-use Rattle.sqlite_trees.specs.Tree.{Trees}
-use Rattle.sqlite.specs.Held.{state}
-use Rattle.sqlite.specs.State.{Survives}
-use Rattle.commands.specs.declared.refusal.Refusal.{Refusal}
-use Rattle.machine.specs.Acts.{Act}
-use Rattle.machine.specs.Once.{IsHistory}
-use Rattle.wire.specs.Answers.{answer_bytes}
-use Rattle.wire.specs.declared.answer.Answer.{Answer}
-use Rattle.wire.specs.declared.answer.Answer.TheVariants.{Text}
-use Rattle.store.specs.Connected.{Connected}
-use Rattle.store.specs.declared.fault.Fault.{Fault}
-use Rattle.store.specs.declared.fault.Fault.TheVariants.{Refused, Store, Foreign}
-use Rattle.store.specs.Books.{HoldsBooks, MayLeave, IsClean}
-use Rattle.store.specs.Queries.{IsShown}
-use Rattle.house.specs.Answers.{no_memory, view_answer}
-use Rattle.house.specs.Asking.{fault_shown, asked_answer, IsWritten, IsTextOf, IsDone, IsUndone}
+use Rattle.house.proofs.Words.{◌≡◌, ℕ, List, refl, ap, sym, subst, ◌∙◌, inl, inr, ◌⊎◌, ℤ, Result, Ok, Err, Ghosts, Trees, state, Survives, Refusal, Act, IsHistory, answer_bytes, Answer, Text, Connected, Fault, Refused, Store, Foreign, HoldsBooks, MayLeave, IsClean, IsShown, no_memory, view_answer, fault_shown, asked_answer, IsWritten, IsTextOf, IsDone, IsUndone}
 
 -- the text of a view that is shown was written
 pub text_written : {V : Type 0} (text : V → List ℕ) (shown : Result V Fault) (view : V) (answer : Answer) → shown ≡ Ok view → answer ≡ Text (text view) → IsTextOf text shown (Ok answer)

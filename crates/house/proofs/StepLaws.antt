@@ -1,47 +1,8 @@
 -- What is true of every step over a text.
-use Rattle.std.proofs.Common.{◌≡◌, ◌≢◌, ℕ, true, false, ◌<◌, List, get_or, lit<, arith, refl, sym, ap, ◌∙◌, inl, inr}
 use Rattle.std.specs.Fmt.{digits}
-use Rattle.std.specs.Prelude.{Bool, if◌then◌else◌, codes, Option, Some, None, Result, Ok, Err, ℤ}
-use Rattle.label.specs.Labels.{label_read}
-use Rattle.label.specs.declared.gs1.Label.{Label}
-use Rattle.values.specs.declared.fault.LabelFault.{LabelFault}
-use Rattle.commands.specs.Refusals.{refusal_code}
-use Rattle.commands.specs.declared.refusal.Refusal.{Refusal}
-use Rattle.commands.specs.declared.key.Key.{Key}
-use Rattle.commands.specs.declared.command.Command.{Command}
-use Rattle.commands.specs.declared.views.OrderView.{OrderView}
-use Rattle.commands.specs.declared.views.StockView.{StockView}
-use Rattle.overviews.specs.Shown.{books_shown, open_orders_shown, item_names_shown, expiring_shown, bin_shown}
-use Rattle.overviews.specs.declared.lists.BooksView.{BooksView}
-use Rattle.overviews.specs.declared.lists.BinView.{BinView}
-use Rattle.overviews.specs.declared.lists.ExpiringView.{ExpiringView}
-use Rattle.overviews.specs.declared.lists.ItemNamesView.{ItemNamesView}
-use Rattle.overviews.specs.declared.lists.OpenOrdersView.{OpenOrdersView}
-use Rattle.machine.specs.Acts.{Act}
-use Rattle.machine.specs.Standing.{today}
-use Rattle.machine.specs.Once.{Outcome, Accepted, Repeated, Refused, outcome, appended, Tally, tally, file_outcome_of, acts_if_taken}
-use Rattle.machine.specs.Queries.{order_shown, short_shown, stock_shown, card_shown, notice_shown}
-use Rattle.goodsin.specs.Files.{file_read}
-use Rattle.goodsin.specs.declared.fault.FileFault.{FileFault}
+use Rattle.house.proofs.Words.{◌≡◌, ◌≢◌, ℕ, true, false, ◌<◌, List, get_or, lit<, arith, refl, sym, ap, ◌∙◌, inl, inr, Bool, if◌then◌else◌, codes, Option, Some, None, Result, Ok, Err, ℤ, label_read, Label, LabelFault, refusal_code, Refusal, Key, Command, OrderView, StockView, books_shown, open_orders_shown, item_names_shown, expiring_shown, bin_shown, BooksView, BinView, ExpiringView, ItemNamesView, OpenOrdersView, Act, today, Outcome, Accepted, Repeated, outcome, appended, Tally, tally, file_outcome_of, acts_if_taken, order_shown, short_shown, stock_shown, card_shown, notice_shown, file_read, FileFault, rows_of, WireFault, Head, Length, Json, Field, Path, Method, TooLarge, Memory, Ask, Do, Scan, GoodsIn, Show, Query, Books, OpenOrders, ItemNames, Expiring, Bin, Order, Stock, PickList, Shortages, Card, Notice, Read, Need, Bad, Request, head_text, code_text, code_row_text, tally_text, BooksAnswer, OpenOrdersAnswer, ItemNamesAnswer, ExpiringAnswer, BinAnswer, OrderAnswer, StockAnswer, Text, pick_list_text, shortages_text, card_text, notice_text, status_of, short_answer, fault_answer, not_served, foreign_books, outcome_answer, is_served, act_answer, acts_with, Delivered, receipt, label_answer, scan_answer, acts_scanned, file_outcome_answer, file_fault_answer, file_answer, acts_filed, view_answer, query_answer, ask_answer, acts_asked, answer_of, acts_of, RefusedRequestsChangeNothing, BooksAreNeverForeign}
+use Rattle.machine.specs.Once.{Refused}
 use Rattle.goodsin.specs.declared.fault.FileFault.TheVariants as file
-use Rattle.store.specs.Filing.{rows_of}
-use Rattle.requests.specs.declared.fault.WireFault.{WireFault}
-use Rattle.requests.specs.declared.fault.WireFault.TheVariants.{Head, Length, Json, Field, Path, Method, TooLarge, Memory}
-use Rattle.requests.specs.declared.ask.Ask.{Ask}
-use Rattle.requests.specs.declared.ask.Ask.TheVariants.{Do, Scan, GoodsIn, Show}
-use Rattle.requests.specs.declared.ask.Query.{Query}
-use Rattle.requests.specs.declared.ask.Query.TheVariants.{Books, OpenOrders, ItemNames, Expiring, Bin, Order, Stock, PickList, Shortages, Card, Notice}
-use Rattle.requests.specs.declared.request.Read.{Read}
-use Rattle.requests.specs.declared.request.Read.TheVariants.{Need, Bad, Request}
-use Rattle.wire.specs.Answers.{head_text}
-use Rattle.wire.specs.Shorts.{code_text, code_row_text, tally_text}
-use Rattle.wire.specs.declared.answer.Answer.TheVariants.{Books as BooksAnswer, OpenOrders as OpenOrdersAnswer, ItemNames as ItemNamesAnswer, Expiring as ExpiringAnswer, Bin as BinAnswer, Order as OrderAnswer, Stock as StockAnswer, Text}
-use Rattle.texts.specs.PickList.{pick_list_text}
-use Rattle.texts.specs.Shortages.{shortages_text}
-use Rattle.texts.specs.Card.{card_text}
-use Rattle.texts.specs.Notice.{notice_text}
-use Rattle.house.specs.Answers.{status_of, short_answer, fault_answer, not_served, foreign_books, outcome_answer, is_served, act_answer, acts_with, Delivered, receipt, label_answer, scan_answer, acts_scanned, file_outcome_answer, file_fault_answer, file_answer, acts_filed, view_answer, query_answer, ask_answer, acts_asked, answer_of, acts_of}
-use Rattle.house.specs.Laws.{RefusedRequestsChangeNothing, BooksAreNeverForeign}
 
 -- What is not answered 200 changes nothing
 

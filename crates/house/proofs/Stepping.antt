@@ -1,32 +1,6 @@
 -- What a reading, answered, is as a step.
-use Rattle.std.proofs.Common.{◌≡◌, ◌≢◌, ℕ, List, [], ◌∷◌, ◌++◌, refl, ap, sym, subst, ◌∙◌, inl, inr, ◌⊎◌}
-use Rattle.std.specs.Prelude.{ℤ, Contains, codes}
 use Rattle.std.specs.Fmt.{digits}
-use Rattle.std.proofs.lemmas.List.Elements.{Contains-append_left, Contains-push}
-use Rattle.sqlite_trees.specs.declared.store.Store.{Ghosts}
-use Rattle.sqlite_trees.specs.Tree.{Trees}
-use Rattle.sqlite.specs.Held.{state}
-use Rattle.sqlite.specs.State.{State}
-use Rattle.machine.specs.Acts.{Act}
-use Rattle.machine.specs.Once.{IsHistory}
-use Rattle.requests.specs.Requests.{IsReading}
-use Rattle.requests.specs.declared.ask.Ask.{Ask}
-use Rattle.requests.specs.declared.ask.Ask.TheVariants.{Show}
-use Rattle.requests.specs.declared.ask.Query.{Query}
-use Rattle.requests.specs.declared.fault.WireFault.{WireFault}
-use Rattle.requests.specs.declared.fault.WireFault.TheVariants.{Head, Length, Json, Field, Path, Method, TooLarge, Memory}
-use Rattle.requests.specs.declared.request.Read.{Read}
-use Rattle.requests.specs.declared.request.Read.TheVariants.{Need, Bad, Request}
-use Rattle.store.specs.Connected.{Connected}
-use Rattle.store.specs.Books.{AreBooks, LeavesOnly, HoldsBooks}
-use Rattle.wire.specs.Answers.{head_text, answer_bytes}
-use Rattle.wire.specs.declared.answer.Answer.{Answer}
-use Rattle.wire.specs.declared.answer.Answer.TheVariants.{Books as BooksAnswer, OpenOrders as OpenOrdersAnswer, ItemNames as ItemNamesAnswer, Expiring as ExpiringAnswer, Bin as BinAnswer, Order as OrderAnswer, Stock as StockAnswer, Text}
-use Rattle.house.specs.Answers.{fault_answer, ask_answer, acts_asked, status_of}
-use Rattle.house.specs.Asking.{IsDone, IsUndone}
-use Rattle.house.specs.House.{Step, StepsTo, IsOneFurther, LeavesBooks, IsLongIfOk, IsInPlace, IsAskedInPlace}
-use Rattle.house.specs.declared.answered.Answered.{Answered}
-use Rattle.house.specs.declared.answered.Answered.TheVariants.{Short, Long}
+use Rattle.house.proofs.Words.{◌≡◌, ◌≢◌, ℕ, List, [], ◌∷◌, ◌++◌, refl, ap, sym, subst, ◌∙◌, inl, inr, ◌⊎◌, ℤ, Contains, codes, Contains-append_left, Contains-push, Ghosts, Trees, state, State, Act, IsHistory, IsReading, Ask, Show, Query, WireFault, Head, Length, Json, Field, Path, Method, TooLarge, Memory, Read, Need, Bad, Request, Connected, AreBooks, LeavesOnly, HoldsBooks, head_text, answer_bytes, Answer, BooksAnswer, OpenOrdersAnswer, ItemNamesAnswer, ExpiringAnswer, BinAnswer, OrderAnswer, StockAnswer, Text, fault_answer, ask_answer, acts_asked, status_of, IsDone, IsUndone, Step, StepsTo, IsOneFurther, LeavesBooks, IsLongIfOk, IsInPlace, IsAskedInPlace, Answered, Short, Long}
 
 -- a text that is no request, or for which there was no memory
 needed_step : (first : ℤ) (acts : List Act) (text : List ℕ) (e : WireFault) → IsReading text (Need e) → Step first acts text (fault_answer e) acts

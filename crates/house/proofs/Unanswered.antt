@@ -1,19 +1,6 @@
 -- What is not answered 200 leaves the tables as before, whatever tables they are.
-use Rattle.std.proofs.Common.{◌≢◌, List, ◌∷◌, [], ◌++◌}
-use Rattle.std.specs.Prelude.{Result, Ok, Err, OnErr, All, codes}
-use Rattle.std.proofs.lemmas.List.Elements.{All-contains, Contains-get_or, Contains-append_left, Contains-push}
-use Rattle.sqlite.specs.State.{State}
-use Rattle.wire.specs.Shorts.{tally_text}
-use Rattle.store.specs.Books.{IsAsBefore}
-use Rattle.store.specs.declared.fault.Fault.{Fault}
-use Rattle.store.specs.declared.reply.Reply.{Reply}
+use Rattle.house.proofs.Words.{◌≢◌, List, ◌∷◌, [], ◌++◌, Result, Ok, Err, OnErr, All, codes, All-contains, Contains-get_or, Contains-append_left, Contains-push, State, tally_text, IsAsBefore, Fault, Reply, RowFault, as_before_then, status_of, told_answer, told_file_answer, bytes_of, Answered}
 use Rattle.store.specs.declared.tally.Tally.{Tally}
-use Rattle.store.specs.declared.tally.RowFault.{RowFault}
-use Rattle.store.proofs.AsBefore.{as_before_then}
-use Rattle.house.specs.Answers.{status_of}
-use Rattle.house.specs.Asking.{told_answer, told_file_answer}
-use Rattle.house.specs.House.{bytes_of}
-use Rattle.house.specs.declared.answered.Answered.{Answered}
 use Rattle.house.proofs.StepLaws.{ok_status}
 
 pub act_unanswered : (done : Result Reply Fault) (old new : State) → OnErr done (IsAsBefore old new) → status_of (told_answer done) ≢ codes "HTTP/1.1 200" → IsAsBefore old new

@@ -1,5 +1,5 @@
 -- What is kept of the acts of a house, before they are answered.
-use Rattle.std.specs.Prelude.{◌≢◌, ◌⊎◌, ℤ, List, codes, Result, OnOk}
+use Rattle.std.specs.Prelude.{◌≢◌, ◌⊎◌, ℤ, List, codes, Result, OnOk, OnErr}
 use Rattle.sqlite_trees.specs.declared.store.Store.{Ghosts}
 use Rattle.sqlite_trees.specs.Tree.{Trees}
 use Rattle.machine.specs.Acts.{Act}
@@ -19,9 +19,10 @@ abbrev pub TellsNoAct : Answered → Type 0
 TellsNoAct (Short block) = status_of block ≢ codes "HTTP/1.1 200"
 TellsNoAct (Long bytes) = Unit {0}
 
--- as the acts before were kept, so are the acts after, where the keeper did not fail
-abbrev pub KeepsOn : {K E : Type 0} → (K → ℤ → List Act → Type 0) → (was now : K) → (before after : List Act) → Result Unit E → Type 0
-KeepsOn keeps was now before after end = (begun : ℤ) → keeps was begun before → OnOk end (keeps now begun after)
+-- As the acts before were kept, so are the acts after, where the keeper did not fail. Else a stop leaves those before, some of those
+-- after and part of what was being added.
+abbrev pub KeepsOn : {K E : Type 0} → (keeps : K → ℤ → List Act → Type 0) → (leaves : K → ℤ → List Act → List Act → Type 0) → (was now : K) → (before after : List Act) → Result Unit E → Type 0
+KeepsOn keeps leaves was now before after end = (begun : ℤ) → keeps was begun before → OnOk end (keeps now begun after) × OnErr end (leaves now begun before after)
 
 -- The books are those of acts that are kept, or nothing was told. `Keeps` says of which acts it is so, `Untold` that not a byte was
 -- written to the client.

@@ -1,16 +1,15 @@
--- What comes of writing the stock card or the recall notice of a lot, row by row.
+-- What comes of writing the stock card or the recall notice of a lot.
 use Rattle.std.specs.Prelude.{◌≡◌, ℕ, ℤ, List, [], Option, Result, Ok, Err}
 use Rattle.std.specs.Io.KnownBytes.{Appends}
 use Rattle.values.specs.declared.lot.LotId.{LotId}
 use Rattle.commands.specs.declared.refusal.Refusal.{Refusal}
 use Rattle.commands.specs.declared.rows.ItemRow.{ItemRow}
 use Rattle.commands.specs.declared.views.CardView.{CardView}
-use Rattle.commands.specs.declared.views.NoticeView.{NoticeView}
 use Rattle.sqlite_trees.specs.declared.store.Store.{Ghosts}
 use Rattle.sqlite_trees.specs.Tree.{Trees}
 use Rattle.machine.specs.Acts.{Act}
 use Rattle.machine.specs.Cards.{lot_units_in_house}
-use Rattle.machine.specs.Views.{card_of_lot, bins_of_lot, shipments_of_lot}
+use Rattle.machine.specs.Views.{card_of_lot}
 use Rattle.texts.specs.Writing.{AppendsBeginning}
 use Rattle.texts.specs.declared.fault.TextFault.{TextFault}
 use Rattle.wire.specs.declared.answer.Answer.{Answer}
@@ -22,12 +21,9 @@ use Rattle.store.specs.declared.fault.Fault.TheVariants.{Refused, Store, Foreign
 use Rattle.store.specs.declared.each_fault.EachFault.{EachFault}
 use Rattle.store.specs.declared.each_fault.EachFault.TheVariants.{Fault, Stopped}
 
--- the card and the notice of a lot with this head
+-- the card of a lot with this head
 abbrev pub card_from : ℤ → List Act → LotId → ItemRow → ℤ → CardView
 card_from first acts l item expiry = record { item = item; lot = l.lot; expiry = expiry; lines = card_of_lot first acts l; in_house = lot_units_in_house first acts l }
-
-abbrev pub notice_from : ℤ → List Act → LotId → ItemRow → Option ℤ → NoticeView
-notice_from first acts l item expiry = record { item = item; lot = l.lot; expiry = expiry; bins = bins_of_lot first acts l; shipments = shipments_of_lot first acts l }
 
 -- the books are still those of the acts, and a stop leaves what it left before
 pub record Stays {S : Type 0} (g : Ghosts S) (first : ℤ) (acts : List Act) (old new : Connected S) : Type 0 where

@@ -51,6 +51,11 @@ abbrev pub IsLogged : {X E : Type 0} → Result X E → (old new : Option (List 
 IsLogged (Ok done) old new text bytes = HasLine old new text bytes
 IsLogged (Err fault) old new text bytes = AppendsBeginning old new (log_line text bytes)
 
--- the same as `IsServed`, and the text and its answer were logged
-abbrev pub IsServedAndLogged : {S X E : Type 0} → Ghosts S → ℤ → List Act → (from to : Option (List ℕ)) → (was books : Connected S) → (List ℕ → Type 0) → Result X E → (old new : Option (List ℕ)) → Type 0
-IsServedAndLogged g first acts from to was books IsWritten logged old new = (s : IsServed g first acts from to was books IsWritten) × IsLogged logged old new s.text s.bytes
+-- what was sent of an answer: nothing, where what was done could not be kept
+abbrev pub sent_of : {X E : Type 0} → (kept : Result X E) → (bytes : List ℕ) → List ℕ
+sent_of (Ok done) bytes = bytes
+sent_of (Err fault) bytes = []
+
+-- the same as `IsServed`, and the text was logged, with what was sent of its answer
+abbrev pub IsServedAndLogged : {S X Y E F : Type 0} → Ghosts S → ℤ → List Act → (from to : Option (List ℕ)) → (was books : Connected S) → (List ℕ → Type 0) → (kept : Result Y F) → (logged : Result X E) → (old new : Option (List ℕ)) → Type 0
+IsServedAndLogged g first acts from to was books IsWritten kept logged old new = (s : IsServed g first acts from to was books IsWritten) × IsLogged logged old new s.text (sent_of kept s.bytes)

@@ -124,6 +124,10 @@ impl<S: Alter> House<S> {
         ensures survives { Survives (state S.Store (books_of self.old).conn) (state S.Store (books_of self.new).conn) (NoHistory S.Store (books_of self.old)) }
         ensures kept { IsClean S.Store (books_of self.new) → (first begun : ℤ) (newer older : List Act) → IsHistory first (newer ++ older) → HoldsBooks S.Store first (newer ++ older) (books_of self.old)
             → (TellsNoAct answer.now → newer ++ older ≡ older) → K.keeps keeper.old begun older → OnOk result (K.keeps keeper.new begun (newer ++ older)) }
+        ensures leaves { IsClean S.Store (books_of self.new) → (first begun : ℤ) (newer older : List Act) → IsHistory first (newer ++ older) → HoldsBooks S.Store first (newer ++ older) (books_of self.old)
+            → K.keeps keeper.old begun older → OnErr result (K.leaves keeper.new begun older (newer ++ older)) }
+        ensures asked { status_of (bytes_of answer.now) ≢ codes "HTTP/1.1 200" → OnErr result ⊥ }
+        ensures fails { OnErr result K.may_fail }
         ensures begins { OnErr result ((begun : ℤ) (acts : List Act) → K.keeps keeper.old begun acts → K.begins keeper.new begun acts) }
         ensures loses { (text : List ℕ) → K.has_text keeper.old text → K.has_text keeper.new text }
         ensures calm { IsTrue (K.is_clean keeper.new) → IsTrue (K.is_clean keeper.old) }

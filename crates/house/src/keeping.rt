@@ -1,6 +1,6 @@
 //! Where acts are kept beside the books, before they are answered.
 
-ghost use Rattle.std.specs.Prelude.{◌++◌, ℕ, ℤ, List, Bool, OnOk, IsTrue};
+ghost use Rattle.std.specs.Prelude.{◌≡◌, ◌++◌, ℕ, ℤ, List, Bool, OnOk, OnErr, IsTrue};
 ghost use Rattle.sqlite.specs.Held.{state};
 ghost use Rattle.sqlite.specs.State.{Survives};
 ghost use Rattle.machine.specs.Acts.{Act};
@@ -29,14 +29,21 @@ pub trait Keeper<S: Alter> {
     // Whatever a stop leaves of it begins with these acts.
     ghost begins: { Self → ℤ → List Act → Type 0 };
 
+    // Whatever a stop leaves of it is the acts before, some of those that came behind them up to the acts after, and part of what was
+    // being added.
+    ghost leaves: { Self → ℤ → (before after : List Act) → Type 0 };
+
     // Whatever a stop leaves of it begins with these bytes, whatever they are.
     ghost has_text: { Self → List ℕ → Type 0 };
+
+    // It may fail.
+    ghost may_fail: { Type 0 };
 
     // Its place has returned what was written there.
     ghost is_clean: { Self → Bool };
 
     /// Adds the acts that the books have and it lacks. Nothing of the books is changed, and nothing that it had is lost,
-    /// whatever the books are. After a fault it is not to be asked again.
+    /// whatever the books are. One that cannot fail does not read them. After a fault it is not to be asked again.
     fn bring_up(&mut self, alloc: Global, books: &mut Books<S>) -> Result<(), KeepFault>
         ensures clean { IsClean S.Store books.new → IsClean S.Store books.old }
         ensures holds { IsClean S.Store books.new → (first : ℤ) (acts : List Act) → IsHistory first acts → HoldsBooks S.Store first acts books.old
@@ -45,6 +52,10 @@ pub trait Keeper<S: Alter> {
         ensures survives { Survives (state S.Store books.old.conn) (state S.Store books.new.conn) (NoHistory S.Store books.old) }
         ensures kept { IsClean S.Store books.new → (first begun : ℤ) (newer older : List Act) → IsHistory first (newer ++ older) → HoldsBooks S.Store first (newer ++ older) books.old → keeps self.old begun older
             → OnOk result (keeps self.new begun (newer ++ older)) }
+        ensures leaves { IsClean S.Store books.new → (first begun : ℤ) (newer older : List Act) → IsHistory first (newer ++ older) → HoldsBooks S.Store first (newer ++ older) books.old → keeps self.old begun older
+            → OnErr result (leaves self.new begun older (newer ++ older)) }
+        ensures fails { OnErr result may_fail }
+        ensures still { ¬ may_fail → books.new ≡ books.old }
         ensures begins { (begun : ℤ) (older : List Act) → keeps self.old begun older → begins self.new begun older }
         ensures loses { (text : List ℕ) → has_text self.old text → has_text self.new text }
         ensures calm { IsTrue (is_clean self.new) → IsTrue (is_clean self.old) };
@@ -61,7 +72,11 @@ impl<S: Alter> Keeper<S> for NoKeeper {
 
     ghost begins = { λ _ _ _. Unit {0} };
 
+    ghost leaves = { λ _ _ _ _. Unit {0} };
+
     ghost has_text = { λ _ _. Unit {0} };
+
+    ghost may_fail = { ⊥ };
 
     ghost is_clean = { λ _. true };
 

@@ -8,7 +8,7 @@ ghost use Rattle.store.specs.Books.{IsClean, HoldsBooks, AreAsBefore};
 ghost use Rattle.house.specs.Answers.{status_of};
 ghost use Rattle.house.specs.House.{books_of};
 ghost use Rattle.house.specs.Keeping.{KeepsOn, IsKeptIfTold};
-ghost use Rattle.house.specs.Serving.{IsServed, IsServedAnyhow, IsServedAndLogged, IsLogged};
+ghost use Rattle.house.specs.Serving.{IsServed, IsServedAnyhow, IsServedAndLogged, IsLogged, sent_of};
 
 use crate::House;
 use crate::keeping::{KeepFault, Keeper, NoKeeper};
@@ -57,7 +57,8 @@ impl<S: Alter> House<S> {
     }
 
     /// The same, and behind the answer the log gets its line, as `write_log_line` has it, whether or not the writer took the
-    /// answer. Where the reader fails it gets none. The answer and the books do not depend on the log.
+    /// answer. Where the reader fails it gets none. The answer and the books do not depend on the log. Nobody keeps what was
+    /// done, so nothing fails to be kept.
     pub fn serve_one_logged<R: Read, W: Write, L: Write>(
         &mut self,
         reader: &mut R,
@@ -68,19 +69,21 @@ impl<S: Alter> House<S> {
         ensures served { IsClean S.Store (books_of self.new)
             → (first : ℤ) (acts : List Act) → IsHistory first acts → HoldsBooks S.Store first acts (books_of self.old)
             → result.answered ≢ Err ServeFault.Read
-            → IsServedAndLogged S.Store first acts (R.remaining reader.old) (R.remaining reader.new) (books_of self.old) (books_of self.new) (Writes result.answered (W.contents writer.old) (W.contents writer.new)) result.logged (L.contents log.old) (L.contents log.new) }
+            → IsServedAndLogged S.Store first acts (R.remaining reader.old) (R.remaining reader.new) (books_of self.old) (books_of self.new) (Writes result.answered (W.contents writer.old) (W.contents writer.new)) result.kept result.logged (L.contents log.old) (L.contents log.new) }
         ensures as_before { IsClean S.Store (books_of self.new) → result.answered ≢ Err ServeFault.Read
             → (s : IsServedAnyhow S.Store (R.remaining reader.old) (R.remaining reader.new) (books_of self.old) (books_of self.new) (Writes result.answered (W.contents writer.old) (W.contents writer.new)))
-            × IsLogged result.logged (L.contents log.old) (L.contents log.new) s.text s.bytes × (IsTrue result.is_ok ↔ (status_of s.bytes ≡ codes "HTTP/1.1 200")) }
+            × IsLogged result.logged (L.contents log.old) (L.contents log.new) s.text (sent_of result.kept s.bytes) × (IsTrue result.is_ok ↔ (status_of s.bytes ≡ codes "HTTP/1.1 200")) }
         ensures unchanged { IsClean S.Store (books_of self.new) → result.is_ok ≡ false → AreAsBefore S.Store (books_of self.old) (books_of self.new) }
         ensures unread { result.answered ≡ Err ServeFault.Read → (books_of self.new ≡ books_of self.old) × (writer.new ≡ writer.old) × (log.new ≡ log.old) × (result.logged ≡ Ok tt) }
+        ensures kept { result.kept ≡ Ok tt }
     {
         self.serve_one_kept(reader, writer, log, &mut NoKeeper)
     }
 
     /// The same, and what was done is kept before a byte of its answer is written. The keeper is asked where an act or a file
     /// is answered with status 200. Where it fails what was done stands and nothing is written: the same request gets its
-    /// answer when it comes again. Nothing that it had is lost, whatever the books are.
+    /// answer when it comes again. Its line in the log is then that of an answer of no bytes. Nothing that it had is lost,
+    /// whatever the books are.
     pub fn serve_one_kept<R: Read, W: Write, L: Write, K: Keeper<S>>(
         &mut self,
         reader: &mut R,
@@ -92,17 +95,18 @@ impl<S: Alter> House<S> {
         ensures served { IsClean S.Store (books_of self.new)
             → (first : ℤ) (acts : List Act) → IsHistory first acts → HoldsBooks S.Store first acts (books_of self.old)
             → result.answered ≢ Err ServeFault.Read
-            → (w : IsServedAndLogged S.Store first acts (R.remaining reader.old) (R.remaining reader.new) (books_of self.old) (books_of self.new) (Writes result.answered (W.contents writer.old) (W.contents writer.new)) result.logged (L.contents log.old) (L.contents log.new))
-            × KeepsOn K.keeps keeper.old keeper.new acts w.0.steps.after result.kept }
+            → (w : IsServedAndLogged S.Store first acts (R.remaining reader.old) (R.remaining reader.new) (books_of self.old) (books_of self.new) (Writes result.answered (W.contents writer.old) (W.contents writer.new)) result.kept result.logged (L.contents log.old) (L.contents log.new))
+            × KeepsOn K.keeps K.leaves keeper.old keeper.new acts w.0.steps.after result.kept }
         ensures as_before { IsClean S.Store (books_of self.new) → result.answered ≢ Err ServeFault.Read
             → (s : IsServedAnyhow S.Store (R.remaining reader.old) (R.remaining reader.new) (books_of self.old) (books_of self.new) (Writes result.answered (W.contents writer.old) (W.contents writer.new)))
-            × IsLogged result.logged (L.contents log.old) (L.contents log.new) s.text s.bytes × (IsTrue result.is_ok ↔ (status_of s.bytes ≡ codes "HTTP/1.1 200")) }
+            × IsLogged result.logged (L.contents log.old) (L.contents log.new) s.text (sent_of result.kept s.bytes) × (IsTrue result.is_ok ↔ (status_of s.bytes ≡ codes "HTTP/1.1 200")) }
         ensures unchanged { IsClean S.Store (books_of self.new) → result.is_ok ≡ false → AreAsBefore S.Store (books_of self.old) (books_of self.new) }
         ensures unread { result.answered ≡ Err ServeFault.Read → (books_of self.new ≡ books_of self.old) × (writer.new ≡ writer.old) × (log.new ≡ log.old) × (keeper.new ≡ keeper.old) × (result.logged ≡ Ok tt) × (result.kept ≡ Ok tt) }
         ensures kept { IsClean S.Store (books_of self.new)
             → (first begun : ℤ) (acts : List Act) → IsHistory first acts → HoldsBooks S.Store first acts (books_of self.old) → K.keeps keeper.old begun acts
             → IsKeptIfTold S.Store first (K.keeps keeper.new begun) (books_of self.new) (writer.new ≡ writer.old) }
         ensures untold { OnErr result.kept (writer.new ≡ writer.old) }
+        ensures fails { OnErr result.kept K.may_fail }
         ensures begins { OnErr result.kept ((begun : ℤ) (acts : List Act) → K.keeps keeper.old begun acts → K.begins keeper.new begun acts) }
         ensures loses { (text : List ℕ) → K.has_text keeper.old text → K.has_text keeper.new text }
         ensures calm { IsTrue (K.is_clean keeper.new) → IsTrue (K.is_clean keeper.old) }
@@ -113,7 +117,8 @@ impl<S: Alter> House<S> {
                 let is_ok = answer.is_ok();
                 let kept = self.keep(&answer, keeper);
                 let answered = write_kept(writer, answer.as_bytes(), kept);
-                let logged = write_log_line(heard.text.as_slice(), answer.as_bytes(), log);
+                let sent = sent_bytes(answer.as_bytes(), kept);
+                let logged = write_log_line(heard.text.as_slice(), sent, log);
                 Served {
                     is_ok,
                     answered,
@@ -128,6 +133,16 @@ impl<S: Alter> House<S> {
                 kept: Ok(()),
             },
         }
+    }
+}
+
+/// What is sent of an answer: nothing, where what was done is not kept.
+fn sent_bytes(bytes: &[u8], kept: Result<(), KeepFault>) -> &[u8]
+    ensures { result.now ≡ sent_of kept bytes.now }
+{
+    match kept {
+        Ok(()) => bytes,
+        Err(_) => &[],
     }
 }
 

@@ -1,18 +1,6 @@
 -- Queries for the rows in which a column is above a number.
-use Rattle.std.proofs.Common.{◌≡◌, ℕ, Bool, true, false, Some, pos, refl, ap, ◌∙◌, arith, int_cmp, is_gt}
-use Rattle.std.specs.Prelude.{nat_lt}
-use Rattle.std.proofs.lemmas.Bool.Decides.{nat_tests}
-use Rattle.std.proofs.lemmas.Int.{ints}
-use Rattle.sqlite.specs.declared.types.Value.{Value}
-use Rattle.sqlite.specs.declared.types.Value.TheVariants.{Int}
-use Rattle.sqlite.specs.Collation.TheVariants.{Binary}
-use Rattle.sqlite.specs.Term.{Term, col, op2}
-use Rattle.sqlite_sql.specs.declared.ops.BinaryOp.TheVariants.{Compare}
-use Rattle.sqlite_sql.specs.declared.ops.CompareOp.TheVariants.{Gt}
-use Rattle.sqlite_sql.specs.Ops.{binary, is_true, from_truth}
-use Rattle.sqlite_value.specs.Order.{value_cmp}
-use Rattle.sqlite_value.proofs.OrderLemmas.{value_cmp-Int}
-use Rattle.table_words.specs.Cells.{is_number, number_in}
+use Rattle.keyed_rows.proofs.Words.{◌≡◌, ℕ, Bool, true, false, Some, pos, refl, ap, ◌∙◌, arith, int_cmp, is_gt, nat_lt, nat_tests, ints, Value, Int, Binary, Term, col, op2, Compare, Gt, is_true, from_truth, value_cmp, value_cmp-Int, is_number, number_in}
+use Rattle.sqlite_sql.specs.Ops.{binary}
 
 -- the column at this place is above the parameter at that one
 abbrev pub above : ℕ → ℕ → Term

@@ -1,41 +1,8 @@
 -- What the statements on a table make of the books, of any table that keeps the laws.
-use Rattle.std.proofs.Common.{◌≡◌, ◌≢◌, ℕ, Bool, true, false, not, List, [], ◌∷◌, filter, map, length, slice_get, Some, None, inl, inr, IsTrue, refl, sym, ap, subst, ◌∙◌, arith, Equal}
-use Rattle.std.specs.Prelude.{if◌then◌else◌, ◌↔◌}
-use Rattle.std.specs.List.{AllByRecursion}
-use Rattle.std.proofs.lemmas.Bool.{cases_Bool, cases_eq, eq-eqb, ne_eqb}
-use Rattle.std.proofs.lemmas.Bool.Decides.{nat_tests}
+use Rattle.keyed_rows.proofs.Words.{◌≡◌, ◌≢◌, ℕ, Bool, true, false, not, List, [], ◌∷◌, filter, map, length, slice_get, Some, None, inl, inr, IsTrue, refl, sym, ap, subst, ◌∙◌, arith, Equal, if◌then◌else◌, ◌↔◌, AllByRecursion, cases_Bool, cases_eq, eq-eqb, ne_eqb, nat_tests, State, Trees, with_tree, Database, Chosen, runs_as, reads_as, all_both, all-slice_get, all-filter, with_rowid, is_taken, rowid, put_row, is_int, Has, all_has, all_from, Null, value_cmp, AreRows, only_if, typed-filter, both_typed, shown_typed, the_tables, schema_with, IsRows, typed, Changed, Tables, tables_in, Rule, the_rules, Keeps, AreTyped, IsReady, Goes, Counts, over, filter_same_on, IsRows-filter, IsRows-over, IsRows-put_row, all_put_row, any_counted, none_counted_pass, none_over, stays_put, Column, Unique, tests_from, passes, show, goes_in, updates, deletes, ready_after, sets_off_nothing, goes, typed_at, typed_put, front, AtMostOne, one_by_key, few, none_had, meets, found_put, found_over, found_without, are_rows, are_rows_if, keyed, Described, IsLawful, Change, IsChange, DropIs, Query, IsSought, laid, rule_of, sound, with_row, without_row, found, stored_of}
 use Rattle.sqlite.specs.Order.{Row}
-use Rattle.sqlite.specs.State.{State, Shown}
-use Rattle.sqlite.specs.Tree.{Trees, with_tree}
-use Rattle.sqlite.specs.Effect.{Database}
-use Rattle.sqlite.specs.Rowids.TheVariants.{Chosen}
-use Rattle.sqlite.proofs.Callers.{runs_as, reads_as}
-use Rattle.sqlite_keyed.proofs.ListLemmas.{all_both, all-slice_get, all-filter}
-use Rattle.sqlite_rules.specs.Edit.{with_rowid, is_taken}
-use Rattle.sqlite_trees.specs.Tree.{rowid, put_row}
-use Rattle.sqlite_trees.specs.View.{is_int}
-use Rattle.sqlite_rules.specs.Lists.{Has}
-use Rattle.sqlite_rules.proofs.ListLemmas.{all_has, all_from}
-use Rattle.sqlite_value.specs.declared.value.Value.TheVariants.{Null}
-use Rattle.sqlite_value.specs.Order.{value_cmp}
-use Rattle.table_words.specs.Found.{AreRows, only_if}
-use Rattle.table_words.proofs.CellLemmas.{typed-filter, both_typed, shown_typed}
-use Rattle.table_words.specs.Schema.{the_tables, schema_with}
-use Rattle.table_words.specs.Rows.{IsRows}
-use Rattle.table_words.specs.Cells.{typed}
-use Rattle.table_words.specs.Changed.{Changed}
-use Rattle.table_words.specs.Typed.{Tables, tables_in, Rule, the_rules, Keeps, AreTyped}
-use Rattle.table_words.specs.Steps.{IsReady, Goes}
-use Rattle.table_words.specs.Calls.{Counts}
-use Rattle.table_words.proofs.ListLemmas.{over, filter_same_on, IsRows-filter, IsRows-over, IsRows-put_row, all_put_row, any_counted, none_counted_pass, none_over, stays_put}
-use Rattle.sqlite_schema.specs.declared.schema.Column.{Column}
-use Rattle.sqlite_schema.specs.declared.schema.Constraint.TheVariants.{Unique}
-use Rattle.table_words.proofs.Plans.{tests_from}
-use Rattle.table_words.proofs.ScanLemmas.{passes, show}
-use Rattle.table_words.proofs.WriteLemmas.{goes_in, updates, deletes}
-use Rattle.table_words.proofs.StepLemmas.{ready_after, sets_off_nothing, goes, typed_at, typed_put, front}
-use Rattle.table_words.proofs.KeyLemmas.{AtMostOne, one_by_key, few, none_had, meets, found_put, found_over, found_without, are_rows, are_rows_if}
-use Rattle.keyed_rows.specs.Described.{keyed, Described, IsLawful, Change, IsChange, DropIs, Query, IsSought, laid, rule_of, sound, with_row, without_row, found, stored_of}
+use Rattle.sqlite.specs.State.{Shown}
+pub use Rattle.keyed_rows.specs.KeyLaws.{rows_of, apart, found_by_key}
 
 all_over_ids : (P : Row → Type 0) (p : Row → Bool) (values : Row) (rows : List Row) → ((r : Row) → IsTrue (is_int (rowid r)) → p r ≡ true → P (rowid r ∷ values)) → AllByRecursion (λ r. IsTrue (is_int (rowid r))) rows → AllByRecursion P rows → AllByRecursion P (over p values rows)
 all_over_ids P p values [] f k h = tt
@@ -67,9 +34,6 @@ pub typed_rows : {X K : Type 0} (d : Described X K) → IsLawful d → (trees : 
 typed_rows d laws trees are = typed_at d.place (rule_of d) laws.ruled trees are
 
 module _ {X K : Type 0} (d : Described X K) (laws : IsLawful d) where
-  pub rows_of : (db : Database) → IsReady db → IsRows (db.trees d.layout.tree)
-  rows_of db ready = all-slice_get (λ t. IsRows (db.trees t.tree)) the_tables d.place (laid d.layout) laws.placed_first ready.rows
-
   at_own : (s : X) (r : Row) → d.is r ≡ true → passes (d.cells s) d.tests r ≡ d.same (d.key s) (d.key (d.reads r))
   at_own s r h = laws.own_key s r ∙ laws.at_key (d.key s) r h
 
@@ -84,7 +48,7 @@ module _ {X K : Type 0} (d : Described X K) (laws : IsLawful d) where
       let tree = d.layout.tree in
       let p = passes params d.tests in
       let rows = old.now.trees tree in
-      let kept = rows_of old.now ready in
+      let kept = rows_of d laws old.now ready in
       let after = over p (c.values s) rows in
       let rest = ready.has.rest in
       let w = runs_as c.text params old new (schema_with rest) ready.has.is _ (it.is rest).0 (it.is rest).1 count h.executes.0 in
@@ -118,7 +82,7 @@ module _ {X K : Type 0} (d : Described X K) (laws : IsLawful d) where
       let tree = d.layout.tree in
       let p = passes params d.tests in
       let rows = old.now.trees tree in
-      let kept = rows_of old.now ready in
+      let kept = rows_of d laws old.now ready in
       let row : Row = with_rowid Chosen rows (d.source s) in
       let after = put_row row rows in
       let came = laws.comes s rows good in
@@ -152,7 +116,7 @@ module _ {X K : Type 0} (d : Described X K) (laws : IsLawful d) where
       let rows = old.now.trees tree in
       let left = filter (λ r. not (p r)) rows in
       let rest = ready.has.rest in
-      let kept = rows_of old.now ready in
+      let kept = rows_of d laws old.now ready in
       let w = runs_as text params old new (schema_with rest) ready.has.is _ (it rest).0 (it rest).1 count h.executes.0 in
       let c = deletes (schema_with rest) d.place tree _ _ _ _ _ _ (laws.placed rest) (λ olds news. sets_off_nothing rest tree olds news ready.has.apart) old new d.tests _ params count ready.has.is kept w in
       goes old new tree left _ ready (IsRows-filter _ rows kept) c (h.executes.1.mode ∙ sym h.inside)
@@ -160,21 +124,10 @@ module _ {X K : Type 0} (d : Described X K) (laws : IsLawful d) where
       ∙ ap (λ f. if d.same at k then None else f at) (sym (laws.looks old.now.trees))) i) (tables_in old.now.trees)))
       (λ are. typed_put old.now.trees (rule_of d) left (all-filter (λ r. d.is r ≡ true) _ rows (typed_rows d laws old.now.trees are)) d.place laws.ruled are)
 
-  -- typed rows with one key are one row
-  pub apart : (db : Database) → IsReady db → (a b : Row) → Has (db.trees d.layout.tree) a → Has (db.trees d.layout.tree) b → d.is a ≡ true → d.is b ≡ true → d.same (d.key (d.reads a)) (d.key (d.reads b)) ≡ true → value_cmp (rowid a) (rowid b) ≡ Equal
-  apart db ready a b ha hb ta tb e =
-      let k = d.key (d.reads a) in
-      laws.one_row db ready (d.key_cells k) b a hb ha (laws.at_key k b tb ∙ e) (laws.at_key k a ta ∙ laws.itself k)
-
-  -- what is found by a test of the key
-  pub found_by_key : (wanted : K → Bool) (db : Database) → IsReady db → (xs : List X) → xs ≡ filter (λ x. wanted (d.key x)) (typed d.is d.reads (db.trees d.layout.tree)) → AreRows d.same d.key wanted (d.look (tables_in db.trees)) xs
-  found_by_key wanted db ready xs are =
-      subst (λ f. AreRows d.same d.key wanted f xs) (sym (laws.looks db.trees)) (are_rows d.same d.key laws.one_key wanted d.is d.reads (db.trees d.layout.tree) xs (rows_of db ready).0 (apart db ready) are)
-
   -- what is found by a test of the row
   pub found_by_test : (test : X → Bool) (db : Database) → IsReady db → (xs : List X) → xs ≡ filter test (typed d.is d.reads (db.trees d.layout.tree)) → AreRows d.same d.key (λ k. true) (λ k. only_if test (d.look (tables_in db.trees) k)) xs
   found_by_test test db ready xs are =
-      subst (λ f. AreRows d.same d.key (λ k. true) (λ k. only_if test (f k)) xs) (sym (laws.looks db.trees)) (are_rows_if d.same d.key laws.one_key test d.is d.reads (db.trees d.layout.tree) xs (rows_of db ready).0 (apart db ready) are)
+      subst (λ f. AreRows d.same d.key (λ k. true) (λ k. only_if test (f k)) xs) (sym (laws.looks db.trees)) (are_rows_if d.same d.key laws.one_key test d.is d.reads (db.trees d.layout.tree) xs (rows_of d laws db ready).0 (apart d laws db ready) are)
 
   module _ {B : Type 0} (q : Query X K B) (are_of : B → Tables → List X → Type 0) (it : IsSought d q are_of) (by : B) (old new : State) (rows : List Row) (ready : IsReady old.now) (h : Shown q.text (q.params by) old new rows) where
     turn : rows ≡ map (show (q.params by) d.shown) (filter (passes (q.params by) q.tests) (old.now.trees d.layout.tree))
@@ -192,6 +145,6 @@ module _ {X K : Type 0} (d : Described X K) (laws : IsLawful d) where
     pub typed_are : AllByRecursion (λ r. d.is r ≡ true) (stored_of d q by old.now.trees) ↔ AllByRecursion (λ v. d.has v ≡ true) rows
     typed_are =
         let all = old.now.trees d.layout.tree in
-        let kept = rows_of old.now ready in
+        let kept = rows_of d laws old.now ready in
         let same_rows = filter_same_on (passes (q.params by) q.tests) (q.stored by) all (λ r there. it.at_stored by r (all_has (λ r. IsTrue (is_int (rowid r))) all r kept.1 there)) in
         both_typed d.has d.is (show (q.params by) d.shown) (laws.has_shown (q.params by)) (stored_of d q by old.now.trees) rows (turn ∙ ap (map (show (q.params by) d.shown)) same_rows)

@@ -1,18 +1,7 @@
 -- Writes one after another.
-use Rattle.std.proofs.Common.{List, [], ◌∷◌, ◌++◌, ◌+◌, ◌<◌, ◌≤◌, length, take, get_or, ◌≡◌, ◌≢◌, inl, inr, ℕ, Result, Ok, Err, refl, sym, ap, subst, ◌∙◌, arith}
-use Rattle.std.specs.Prelude.{IsErr, IsErrAnd}
-use Rattle.std.proofs.lemmas.List.{take_more, take_all}
+use Rattle.keyed_rows.proofs.Words.{List, [], ◌∷◌, ◌++◌, ◌+◌, ◌<◌, ◌≤◌, length, take, get_or, ◌≡◌, ◌≢◌, inl, inr, ℕ, Result, Ok, Err, refl, sym, ap, subst, ◌∙◌, arith, IsErr, IsErrAnd, take_more, take_all, Held, state, State, HasCleanDisk, Survives, KeepsCommit, Tables, tables_in, IsReady, Goes, ChangesNone, Counts, TableFault, Foreign, goes_then, none_then, kept_itself, kept_then, inside_itself, inside_then, WritesBy, Writes, WereTyped, WritesInside, Spares, Ran, each_written}
 use Rattle.sqlite.specs.Order.{Row}
 use Rattle.sqlite.specs.Store.{Ghosts}
-use Rattle.sqlite.specs.Held.{Held, state}
-use Rattle.sqlite.specs.State.{State, HasCleanDisk, Survives, KeepsCommit}
-use Rattle.table_words.specs.Typed.{Tables, tables_in}
-use Rattle.table_words.specs.Steps.{IsReady, Goes, ChangesNone}
-use Rattle.table_words.specs.Calls.{Counts}
-use Rattle.table_words.specs.declared.error.TableFault.{TableFault}
-use Rattle.table_words.specs.declared.error.TableFault.TheVariants.{Foreign}
-use Rattle.table_words.proofs.CallLemmas.{goes_then, none_then, kept_itself, kept_then, inside_itself, inside_then}
-use Rattle.keyed_rows.specs.Writes.{WritesBy, Writes, WereTyped, WritesInside, Spares, Ran, each_written}
 
 -- nothing is done
 pub writes_none : {X : Type 0} (to : X → Tables → Tables) (s : State) (e : TableFault) → e ≢ Foreign → WritesBy to s s (Err e)

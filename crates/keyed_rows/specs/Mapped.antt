@@ -8,7 +8,7 @@ use Rattle.commands.specs.Tables.{Tables}
 use Rattle.table_words.specs.Stored.{Columns, Mapping, is_stored_row, stored_row}
 use Rattle.table_words.specs.declared.chain.TheConstants.{COLUMNS_MAX}
 use Rattle.table_words.proofs.Plans.{tests_from}
-use Rattle.keyed_rows.specs.Described.{Described, Change, Query, keyed}
+use Rattle.keyed_rows.specs.Described.{Described, Change, keyed}
 
 -- what there is to say of a table beside the columns of its rows
 pub record Plan (X K : Type 0) : Type 0 where
@@ -71,9 +71,3 @@ pub record IsKeyed {X K P : Type 0} (c : Columns P) (count : ℕ) (d : Described
   pub few : nat_le count COLUMNS_MAX ≡ true
   pub fits : (s : X) → c.fits (keys s) ≡ true
   pub cells : (s : X) → c.cells (keys s) ≡ d.key_cells (d.key s)
-
--- the same of what its rows are sought by
-pub record IsAsked {X K B : Type 0} (c : Columns B) (count : ℕ) (q : Query X K B) : Type 0 where
-  pub few : nat_le count COLUMNS_MAX ≡ true
-  pub fits : (by : B) → q.may by ≡ true → c.fits by ≡ true
-  pub cells : (by : B) → c.cells by ≡ q.params by

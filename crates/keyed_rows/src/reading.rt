@@ -126,34 +126,29 @@ pub trait Sought<B>: Table {
     ghost query_laws: { IsSought Self.table query are_of };
 }
 
-/// A table whose rows are sought by columns.
+/// A table whose rows are sought by texts in columns.
 pub trait SoughtBy<B: Chain>: Table {
-    ghost use Rattle.std.specs.Prelude.{List};
-    ghost use Rattle.commands.specs.Tables.{Tables};
-    ghost use Rattle.keyed_rows.specs.Described.{Query, IsSought};
-    ghost use Rattle.keyed_rows.specs.Mapped.{IsAsked};
+    ghost use Rattle.keyed_rows.specs.Asks.{Asks, IsAsked};
 
     /// What the query is.
-    ghost asks: { Query Self.Row Self.Key B };
-
-    /// The rows are those of the tables that are sought, each once.
-    ghost answers: { B → Tables → List Self.Row → Type 0 };
+    ghost asks: { Asks Self.Key B };
 
     /// Its text.
     fn asking_text() -> &'static str
         ensures { result.now ≡ asks.text };
 
-    ghost asked: { IsAsked B.columns B.count asks };
-
-    ghost asks_laws: { IsSought Self.table asks answers };
+    ghost asked: { IsAsked B.columns B.count Self.table asks };
 }
 
 impl<T: SoughtBy<B>, B: Chain> Sought<B> for T {
-    ghost query = { T.asks };
+    ghost use Rattle.keyed_rows.specs.Asks.{query_of, AreSought};
+    ghost use Rattle.keyed_rows.specs.AskedLaws.{asked_sought};
 
-    ghost are_of = { T.answers };
+    ghost query = { query_of T.table T.asks };
 
-    ghost query_laws = { T.asks_laws };
+    ghost are_of = { AreSought T.table T.asks };
+
+    ghost query_laws = { asked_sought T.table T.asks T.laws B.columns B.count T.asked };
 
     fn query_text(_: &B) -> &'static str {
         T::asking_text()

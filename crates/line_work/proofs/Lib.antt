@@ -1,1 +1,12 @@
+mod Words
+pub mod Rows
+pub mod Unaudited
+pub mod TakenIn
+mod OwnDays
+mod Chosen
+mod Opened
+mod FileKept
+mod Served
+mod Imported
+pub mod Losing
 pub mod NotBegun

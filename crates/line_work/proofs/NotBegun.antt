@@ -1,12 +1,5 @@
 -- What is left where no work was begun.
-use Rattle.sqlite_trees.specs.declared.store.Store.{Ghosts}
-use Rattle.sqlite.specs.Held.{Held}
-use Rattle.books_schema.specs.declared.ready_connection.Leftover.{Leftover}
-use Rattle.command_line.specs.declared.fault.Fault.{Fault}
-use Rattle.command_line.specs.declared.running.Work.{Work}
-use Rattle.command_line.specs.declared.running.Work.TheVariants.{Make, Serve, Import, Card, Notice, History, Audit, Apply}
-use Rattle.line_books.specs.Failing.{IsCleanBefore}
-use Rattle.line_work.specs.Works.{IsNotBegun}
+use Rattle.line_work.proofs.Words.{StoreGhosts as Ghosts, Held, Leftover, Fault, Work, Make, Serve, Import, Card, Notice, History, Audit, Apply, IsCleanBefore, IsNotBegun}
 
 -- whatever the work was
 pub clean_before : {S : Type 0} (g : Ghosts S) (old : Held S) (work : Work) (left : Leftover S) (fault : Fault) → IsNotBegun g old work left fault → IsCleanBefore g old left

@@ -1,1 +1,10 @@
+pub mod Rows
+pub mod Auditing
+pub mod Applying
+pub mod Faults
+pub mod Kept
+pub mod Beside
+pub mod Serving
+pub mod Importing
+pub mod Lines
 pub mod Works

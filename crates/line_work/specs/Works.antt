@@ -14,12 +14,12 @@ use Rattle.command_line.specs.declared.fault.Fault.{Fault}
 use Rattle.command_line.specs.declared.fault.Fault.TheVariants.{Foreign}
 use Rattle.command_line.specs.declared.running.Work.{Work}
 use Rattle.command_line.specs.declared.running.Work.TheVariants.{Make, Serve, Import, Card, Notice, History, Audit, Apply}
-use Rattle.line_books.specs.Failing.{IsUnmade, IsUnopened}
-use Rattle.audit_line.specs.Auditing.{IsAuditTold, IsLeftAs, IsUnaudited}
-use Rattle.apply_line.specs.Applying.{KeepsMore, LeavesApplied}
-use Rattle.service.specs.Serving.{KeepsLogged}
+use Rattle.service.specs.Failing.{IsUnmade, IsUnopened}
+use Rattle.line_work.specs.Auditing.{IsAuditTold, IsLeftAs, IsUnaudited}
+use Rattle.line_work.specs.Applying.{KeepsMore, LeavesApplied}
+use Rattle.service.specs.Serving.{KeepsLogged, sent_by}
 use Rattle.service.specs.Printing.{LeavesSheet}
-use Rattle.kept_lines.specs.Lines.{IsImportedWith, IsImportToldIf, IsPortToldIf, IsServedWith, KeepsImported}
+use Rattle.line_work.specs.Lines.{IsImportedWith, IsImportToldIf, IsPortToldIf, IsServedWith, KeepsImported, OverRows}
 use Rattle.service.specs.declared.books_lines.Sheet.TheVariants as sheet
 
 -- a server logs where that is asked for, and no other work does
@@ -59,7 +59,7 @@ IsServer (Apply file) = ⊥
 abbrev pub IsWorked : {S D : Type 0} → Ghosts S → Option D → Held S → Work → (log_old log_new : Option (List ℕ)) → Result Unit Fault → Held S → Type 0
 IsWorked g disk old (Make day) log_old log_new end new = KeepsBooks day [] (state g new) × IsTrue (state g new).is_open
 IsWorked g disk old (Serve port max log acts_file) log_old log_new end new = (first : ℤ) (acts : List Act) → IsHistory first acts → AreFoundRows first acts (state g old).committed.trees
-    → KeepsLogged g first acts max new log end log_old log_new
+    → KeepsLogged g first acts max new log sent_by end log_old log_new
 IsWorked g disk old (Import file acts_file) log_old log_new end new = (first : ℤ) (acts : List Act) → IsHistory first acts → AreFoundRows first acts (state g old).committed.trees → KeepsImported g disk first acts new
 IsWorked g disk old (Card lot) log_old log_new end new = (first : ℤ) (acts : List Act) → IsHistory first acts → AreFoundRows first acts (state g old).committed.trees → KeepsBooks first acts (state g new)
 IsWorked g disk old (Notice lot) log_old log_new end new = (first : ℤ) (acts : List Act) → IsHistory first acts → AreFoundRows first acts (state g old).committed.trees → KeepsBooks first acts (state g new)
@@ -98,8 +98,8 @@ IsTold g files disk conn (Apply file) old new end left = (first : ℤ) (acts : L
 -- what becomes of the disk for the acts: a server and an import keep there what they do, and other work leaves it alone
 abbrev pub IsKeptBeside : {S D : Type 0} → Ghosts S → DiskGhosts D → (List ℕ → Option (List ℕ)) → Held S → Work → (old new log_old log_new : Option (List ℕ)) → Result Unit Fault → Held S → (before after : Option D) → Type 0
 IsKeptBeside s g files conn (Make day) old new log_old log_new end left before after = after ≡ before
-IsKeptBeside s g files conn (Serve port max log acts_file) old new log_old log_new end left before after = IsServedWith s g conn max left log end old new log_old log_new before after
-IsKeptBeside s g files conn (Import file acts_file) old new log_old log_new end left before after = IsImportedWith s g conn (files file.now) left end old new before after
+IsKeptBeside s g files conn (Serve port max log acts_file) old new log_old log_new end left before after = IsServedWith s g (OverRows s conn) max left log end old new log_old log_new before after
+IsKeptBeside s g files conn (Import file acts_file) old new log_old log_new end left before after = IsImportedWith s g (OverRows s conn) (files file.now) left end old new before after
 IsKeptBeside s g files conn (Card lot) old new log_old log_new end left before after = after ≡ before
 IsKeptBeside s g files conn (Notice lot) old new log_old log_new end left before after = after ≡ before
 IsKeptBeside s g files conn History old new log_old log_new end left before after = after ≡ before

@@ -1,16 +1,13 @@
 ghost use Rattle.std.specs.Prelude.{◌≡◌, true, false, IsErr, IsErrAnd, OnErr, IfOk, IfErr};
 ghost use Rattle.sqlite.specs.Held.{state};
 ghost use Rattle.sqlite.specs.State.{HasCleanDisk};
-ghost use Rattle.kept_lines.specs.Lines.{LosesNoLineIf};
+ghost use Rattle.line_work.specs.Lines.{LosesNoLineIf};
 ghost use Rattle.line_work.specs.Works.{Listens, is_logged, IsServer, IsNotBegun, IsWorked, IsJudged, IsTold, IsKeptBeside};
 
-use apply_line::open_and_apply;
-use audit_line::audit_books;
+use crate::{audit_books, import_line, open_and_apply, serve_line};
 use books_schema::ready_connection::{Leftover, Orderly};
 use command_line::{Fault, FilesAt, Work};
-use kept_lines::{import_line, serve_line};
-use line_books::{AfterWork, NotBegun, make_books};
-use service::{Sheet, open_and_print, open_and_print_acts};
+use service::{AfterWork, NotBegun, Sheet, make_books, open_and_print, open_and_print_acts};
 use sqlite::Connection;
 use sqlite_disk::Disk;
 use std::io::{self, Write};

@@ -1,7 +1,6 @@
 -- Lists of which no two elements pass a test of sameness: each is the one that is found by it.
-use Rattle.std.proofs.Common.{◌≡◌, Bool, true, false, List, [], ◌∷◌, refl, ap, ◌∙◌}
-use Rattle.std.specs.Prelude.{◌||◌, if◌then◌else◌, Some, find, is_some, filter, map}
-use Rattle.std.specs.List.{list_any, IsDistinct, AllByRecursion}
+use Rattle.std.specs.List.{IsDistinct}
+use Rattle.machine.proofs.Words.{◌≡◌, Bool, true, false, List, [], ◌∷◌, refl, ap, ◌∙◌, ◌||◌, if◌then◌else◌, Some, find, is_some, filter, map, list_any, AllByRecursion}
 use Rattle.machine.proofs.Tests.{or_none}
 
 pub any_found : {X : Type 0} (test : X → Bool) (xs : List X) → is_some (find test xs) ≡ list_any test xs

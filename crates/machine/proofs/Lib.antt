@@ -1,3 +1,4 @@
+mod Words
 pub mod Tests
 pub mod Numbers
 pub mod Apart

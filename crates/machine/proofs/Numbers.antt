@@ -1,9 +1,6 @@
 -- What tests on numbers and sums of rows say.
-use Rattle.std.proofs.Common.{◌≡◌, ℕ, ◌+◌, ◌≤◌, ◌<◌, Bool, true, false, ◌&&◌, List, [], ◌∷◌, refl, sym, ◌∙◌, arith, eq-eqb}
-use Rattle.std.specs.Prelude.{◌==◌, nat_lt, if◌then◌else◌}
-use Rattle.std.proofs.lemmas.Bool.{eqb-true}
 use borrow.Author.Tests.{ltb-true, lt-ltb}
-use Rattle.commands.specs.Lists.{total}
+use Rattle.machine.proofs.Words.{◌≡◌, ℕ, ◌+◌, ◌≤◌, ◌<◌, Bool, true, false, ◌&&◌, List, [], ◌∷◌, refl, sym, ◌∙◌, arith, eq-eqb, ◌==◌, nat_lt, if◌then◌else◌, eqb-true, total}
 use Rattle.machine.proofs.Tests.{same_tests}
 
 -- Numbers

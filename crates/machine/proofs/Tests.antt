@@ -1,12 +1,6 @@
 -- What tests on texts, lots and truth values say.
-use Rattle.std.proofs.Common.{◌≡◌, ℕ, ◌≤◌, Bool, true, false, ◌&&◌, not, List, refl, ap, sym, subst}
-use Rattle.std.specs.Prelude.{◌==◌, ◌||◌, nat_lt, Option, Some, is_some}
-use Rattle.std.specs.Cmp.Lexicographic.{bytes_decides, same_text as equal_texts}
-use Rattle.std.proofs.lemmas.Bool.{eqb-true}
 use borrow.Author.Tests.{ltb-false}
-use Rattle.values.specs.Values.{same_text}
-use Rattle.values.specs.declared.lot.LotId.{LotId}
-use Rattle.machine.specs.Postings.{is_lot}
+use Rattle.machine.proofs.Words.{◌≡◌, ℕ, ◌≤◌, Bool, true, false, ◌&&◌, not, List, refl, ap, sym, subst, ◌==◌, ◌||◌, nat_lt, Option, Some, is_some, bytes_decides, equal_texts, eqb-true, same_text, LotId, is_lot}
 
 -- Truth values
 

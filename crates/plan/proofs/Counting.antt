@@ -1,10 +1,6 @@
 -- The cut is the number that `cut_of` counts.
-use Rattle.std.proofs.Common.{◌≡◌, ℕ, suc, ◌+◌, ◌≤◌, ◌<◌, true, false, not, ◌&&◌, List, [], ◌∷◌, length, get_or, drop, refl, ap, sym, subst, ◌∙◌, inl, inr, arith}
 use Prim.Native.Nat.{zero}
-use Rattle.std.specs.Prelude.{Some, if◌then◌else◌}
-use Rattle.plan.specs.Changes.{IsCut, same_demand, same_supply, change_start, ends_in_time, count_kept, cut_of}
-use Rattle.plan.specs.declared.Demand.{Demand}
-use Rattle.plan.specs.declared.Supply.{Supply}
+use Rattle.plan.proofs.Words.{◌≡◌, ℕ, suc, ◌+◌, ◌≤◌, ◌<◌, true, false, not, ◌&&◌, List, [], ◌∷◌, length, get_or, drop, refl, ap, sym, subst, ◌∙◌, inl, inr, arith, Some, if◌then◌else◌, IsCut, same_demand, same_supply, change_start, ends_in_time, count_kept, cut_of, Demand, Supply}
 use Rattle.plan.proofs.Running.{drop_from}
 use Rattle.plan.proofs.Changing.{IsSame, same_none, same_on, changed_here, all_same, one_ends, supplies_equal, supplies_differ, demands_equal, demands_differ, IsCounted, IsChange, counted_none, counted_more, cut_at_end, cut_at_difference, cut_at_change}
 

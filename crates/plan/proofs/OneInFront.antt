@@ -1,11 +1,6 @@
 -- Where one demand stands for the first ones, its rows stay where theirs do.
-use Rattle.std.proofs.Common.{◌≡◌, ℕ, suc, ◌+◌, ◌≤◌, ◌<◌, List, [], ◌∷◌, take, drop, ap, sym, ◌∙◌, arith}
 use Prim.Native.Nat.{zero}
-use Rattle.std.proofs.lemmas.List.{take-append-drop}
-use Rattle.plan.specs.Changes.{IsFirstChange, IsFront, HasFront}
-use Rattle.plan.specs.Overlap.{demand_total, supply_total, plan_rows}
-use Rattle.plan.specs.declared.Demand.{Demand}
-use Rattle.plan.specs.declared.Supply.{Supply}
+use Rattle.plan.proofs.Words.{◌≡◌, ℕ, suc, ◌+◌, ◌≤◌, ◌<◌, List, [], ◌∷◌, take, drop, ap, sym, ◌∙◌, arith, take-append-drop, IsFirstChange, IsFront, HasFront, demand_total, supply_total, plan_rows, Demand, Supply}
 use Rattle.plan.proofs.Sums.{total-append}
 use Rattle.plan.proofs.Parting.{one_for}
 use Rattle.plan.proofs.Fronts.{in_time_all, front_kept}

@@ -1,9 +1,5 @@
 -- A plan in two parts: the rows of the first demands, and those of the demands behind them.
-use Rattle.std.proofs.Common.{◌≡◌, ℕ, ◌+◌, List, ◌∷◌, ◌++◌, take, drop, ap, sym, ◌∙◌, arith}
-use Rattle.std.proofs.lemmas.List.{take-append-drop}
-use Rattle.plan.specs.Overlap.{rows_of_demand, rows_from, supplies_laid, demand_total, plan_rows}
-use Rattle.plan.specs.declared.Demand.{Demand}
-use Rattle.plan.specs.declared.Supply.{Supply}
+use Rattle.plan.proofs.Words.{◌≡◌, ℕ, ◌+◌, List, ◌∷◌, ◌++◌, take, drop, ap, sym, ◌∙◌, arith, take-append-drop, rows_of_demand, rows_from, supplies_laid, demand_total, plan_rows, Demand, Supply}
 use Rattle.plan.proofs.Laying.{plan_rows-append}
 
 pub plan_parted : (n : ℕ) (ds : List Demand) (ss : List Supply) → plan_rows ds ss ≡ plan_rows (take n ds) ss ++ rows_from (demand_total (take n ds)) (drop n ds) ss

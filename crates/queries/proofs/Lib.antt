@@ -1,3 +1,4 @@
+mod Words
 pub mod OrdersTold
 pub mod OrderRight
 pub mod StockRight
@@ -9,3 +10,9 @@ pub mod Asked
 mod NamesRight
 mod ExpiringRight
 mod BinRight
+pub mod CardOrder
+pub mod ShipmentOrder
+pub mod ShipmentCards
+pub mod CardRead
+pub mod ShippedTold
+pub mod NoticeRight

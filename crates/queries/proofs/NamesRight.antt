@@ -1,37 +1,6 @@
 -- What is read of the tables of a history are the rows by which items are shown.
-use Rattle.std.proofs.Common.{◌≡◌, ℕ, true, not, List, [], ◌∷◌, refl, ap, sym, subst, ◌∙◌, Global}
-use Rattle.std.specs.Prelude.{◌+◌, Option, Some, None, option_map, ℤ, Ok, Err, Vec, length, map, take}
-use Rattle.std.specs.List.{list_any}
-use Rattle.std.proofs.lemmas.Option.{same_Some}
-use Rattle.values.specs.Values.{same_text}
-use Rattle.commands.specs.Tables.{Tables}
-use Rattle.commands.specs.declared.command.NewItem.{NewItem}
-use Rattle.commands.specs.declared.refusal.Refusal.TheVariants.{UnknownItem}
-use Rattle.commands.specs.declared.rows.ItemRow.{ItemRow}
-use Rattle.commands.specs.declared.rows.LeastRow.{LeastRow}
-use Rattle.commands.specs.declared.rows.MetaRow.{MetaRow}
-use Rattle.machine.specs.Acts.{Act}
-use Rattle.machine.specs.Once.{IsHistory}
-use Rattle.machine.specs.Standing.{item_named}
-use Rattle.machine.specs.Queries.{if_known}
-use Rattle.machine.specs.Tables.{tables_of, meta_row}
-use Rattle.machine.specs.KeyedRows.{no_two}
-use Rattle.machine.proofs.Tests.{and_both, same_text_is, same_text_refl}
-use Rattle.rules.proofs.rows.Telling.{some_of_mapped}
-use Rattle.overviews.specs.declared.lists.TheConstants.{NAMES_MAX}
-use Rattle.overviews.specs.Pages.{items_behind, item_names_view}
-use Rattle.overviews.specs.Shown.{item_names_shown}
+use Rattle.queries.proofs.Words.{◌≡◌, ℕ, true, not, List, [], ◌∷◌, refl, ap, sym, subst, ◌∙◌, Global, ◌+◌, Option, Some, None, option_map, ℤ, Ok, Err, Vec, length, map, take, list_any, same_Some, same_text, Tables, NewItem, UnknownItem, ItemRow, LeastRow, MetaRow, Act, IsHistory, item_named, if_known, tables_of, meta_row, no_two, and_both, same_text_is, same_text_refl, some_of_mapped, NAMES_MAX, items_behind, item_names_view, item_names_shown, ItemKey, same_item, item_key, LeastKey, same_least, least_key, is_among, AreLeast, any_mapped, and_true, rows_read, rows_as, sought, row_of_item, AreItems, is_named, AreAsked, take_map, page_of_more, items_page_shown, items_once, gtins_of, AreNamed, IsItemSeen, AreNamesBehind, AreNamesIn}
 use Rattle.table_words.specs.Found as table
-use Rattle.table_words.specs.Typed.{ItemKey, same_item, item_key, LeastKey, same_least, least_key}
-use Rattle.slices.specs.Slicing.{is_among, AreLeast}
-use Rattle.slices.proofs.Counted.{any_mapped}
-use Rattle.slices.proofs.RowsTold.{and_true, rows_read, rows_as}
-use Rattle.slices.proofs.SliceTold.{sought}
-use Rattle.views.specs.ShownNames.{row_of_item, AreItems, is_named, AreAsked}
-use Rattle.views.proofs.FirstInOrder.{take_map, page_of_more}
-use Rattle.views.proofs.NamesPage.{items_page_shown}
-use Rattle.views.proofs.NamesShown.{items_once}
-use Rattle.queries.specs.ShownNames.{gtins_of, AreNamed, IsItemSeen, AreNamesBehind, AreNamesIn}
 
 -- What is read is what is asked for
 

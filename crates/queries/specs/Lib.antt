@@ -1,3 +1,4 @@
+mod Words
 pub mod Asked
 pub mod ByOrder
 pub mod ShownOrders
@@ -10,5 +11,6 @@ pub mod ShownBooks
 pub mod ShownOpen
 pub mod Refused
 pub mod ShownNames
+pub mod ShownNotice
 pub mod ShownExpiring
 pub mod ShownBin

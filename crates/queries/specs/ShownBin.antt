@@ -1,36 +1,6 @@
 -- The rows by which the lots in a bin are shown.
-use Rattle.std.specs.Prelude.{◌≡◌, ◌⊎◌, ℕ, ℤ, List, [], Option, Some, None, Result, Ok, Err, option_map, Vec, refl}
-use Rattle.std.proofs.Common.{ap, sym, ◌∙◌, Global, inl, inr}
-use Rattle.values.specs.Values.{same_text}
-use Rattle.values.specs.declared.lot.LotId.{LotId}
-use Rattle.commands.specs.Tables.{Tables}
-use Rattle.commands.specs.declared.command.NewBin.{NewBin}
-use Rattle.commands.specs.declared.refusal.Refusal.{Refusal}
-use Rattle.commands.specs.declared.refusal.Refusal.TheVariants.{UnknownBin, UnknownLot}
-use Rattle.commands.specs.declared.rows.BinRow.{BinRow}
-use Rattle.commands.specs.declared.rows.ItemRow.{ItemRow}
-use Rattle.commands.specs.declared.rows.LeastRow.{LeastRow}
-use Rattle.commands.specs.declared.rows.LotRow.{LotRow}
-use Rattle.commands.specs.declared.rows.MetaRow.{MetaRow}
-use Rattle.commands.specs.declared.rows.RecallRow.{RecallRow}
-use Rattle.commands.specs.declared.rows.StockRow.{StockRow}
-use Rattle.goods_tables.specs.Stock.{AreStockIn}
-use Rattle.overviews.specs.declared.lists.BinView.{BinView}
-use Rattle.overviews.specs.Pages.{page, bin_view}
-use Rattle.overviews.specs.Shown.{bin_shown}
-use Rattle.machine.specs.Acts.{Act}
-use Rattle.machine.specs.Postings.{is_lot}
-use Rattle.machine.specs.Standing.{KnownLot, bin_named, lot_known}
-use Rattle.machine.specs.Queries.{if_known}
-use Rattle.machine.specs.Tables.{tables_of}
-use Rattle.row_rules.specs.declared.slice.Rows.{Rows}
-use Rattle.table_words.specs.Found.{AreRows}
-use Rattle.table_words.specs.Typed.{ItemKey, same_item, item_key, RecallKey, same_recall, recall_key}
-use Rattle.slice_lists.specs.Keys.{with_keys}
-use Rattle.slices.specs.ByLot.{AreLotsOf}
-use Rattle.slices.specs.Slicing.{Each, AreLeast, items_of_lots}
-use Rattle.views.specs.GivenBin.{bin_and_more}
-use Rattle.views.specs.ShownExpiring.{known_row}
+use Rattle.std.specs.Prelude.{◌≡◌, ◌⊎◌}
+use Rattle.queries.specs.Words.{ℕ, ℤ, List, [], Option, Some, None, Result, Ok, Err, option_map, Vec, refl, ap, sym, ◌∙◌, Global, inl, inr, same_text, LotId, Tables, NewBin, Refusal, UnknownBin, UnknownLot, BinRow, ItemRow, LeastRow, LotRow, MetaRow, RecallRow, StockRow, AreStockIn, BinView, page, bin_view, bin_shown, Act, is_lot, KnownLot, bin_named, lot_known, if_known, tables_of, Rows, AreRows, ItemKey, same_item, item_key, RecallKey, same_recall, recall_key, with_keys, AreLotsOf, Each, AreLeast, items_of_lots, bin_and_more, known_row}
 use Rattle.queries.specs.ShownExpiring.{IsLotSeen, IsNoLot}
 
 -- the lots of stock, each once

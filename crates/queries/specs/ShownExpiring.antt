@@ -1,35 +1,6 @@
 -- The rows by which lots that expire are shown.
-use Rattle.std.specs.Prelude.{◌≡◌, ℕ, ℤ, true, List, [], Option, Some, None, Result, Ok, Err, option_map, Vec, refl}
-use Rattle.std.proofs.Common.{ap, sym, ◌∙◌, Global}
-use Rattle.values.specs.Values.{same_text}
-use Rattle.values.specs.declared.lot.LotId.{LotId}
-use Rattle.commands.specs.Tables.{Tables}
-use Rattle.commands.specs.declared.refusal.Refusal.{Refusal}
-use Rattle.commands.specs.declared.refusal.Refusal.TheVariants.{UnknownLot}
-use Rattle.commands.specs.declared.rows.ItemRow.{ItemRow}
-use Rattle.commands.specs.declared.rows.LeastRow.{LeastRow}
-use Rattle.commands.specs.declared.rows.LotRow.{LotRow}
-use Rattle.commands.specs.declared.rows.MetaRow.{MetaRow}
-use Rattle.commands.specs.declared.rows.RecallRow.{RecallRow}
-use Rattle.commands.specs.declared.rows.ReservedRow.{ReservedRow}
-use Rattle.commands.specs.declared.rows.StagedRow.{StagedRow}
-use Rattle.commands.specs.declared.rows.StockRow.{StockRow}
-use Rattle.overviews.specs.declared.lists.ExpiringView.{ExpiringView}
-use Rattle.overviews.specs.Pages.{page, expiring_view}
-use Rattle.overviews.specs.Shown.{expiring_shown}
-use Rattle.machine.specs.Acts.{Act}
-use Rattle.machine.specs.Postings.{is_lot}
-use Rattle.machine.specs.Standing.{KnownLot, lot_known}
-use Rattle.machine.specs.Queries.{if_known}
-use Rattle.machine.specs.Tables.{tables_of}
-use Rattle.row_rules.specs.declared.slice.Rows.{Rows}
-use Rattle.table_words.specs.Found.{AreRows}
-use Rattle.table_words.specs.Typed.{ItemKey, same_item, item_key, RecallKey, same_recall, recall_key, StockKey, same_stock, stock_key, StagedKey, same_staged, staged_key, ReservedKey, same_reserved, reserved_key}
-use Rattle.slice_lists.specs.Keys.{with_keys}
-use Rattle.slices.specs.ByLot.{AreLotsOf}
-use Rattle.slices.specs.Slicing.{Each, AreLeast, items_of_lots}
-use Rattle.views.specs.GivenExpiring.{lots_and_more}
-use Rattle.views.specs.ShownExpiring.{known_row}
+use Rattle.std.specs.Prelude.{◌≡◌}
+use Rattle.queries.specs.Words.{ℕ, ℤ, true, List, [], Option, Some, None, Result, Ok, Err, option_map, Vec, refl, ap, sym, ◌∙◌, Global, same_text, LotId, Tables, Refusal, UnknownLot, ItemRow, LeastRow, LotRow, MetaRow, RecallRow, ReservedRow, StagedRow, StockRow, ExpiringView, page, expiring_view, expiring_shown, Act, is_lot, KnownLot, lot_known, if_known, tables_of, Rows, AreRows, ItemKey, same_item, item_key, RecallKey, same_recall, recall_key, StockKey, same_stock, stock_key, StagedKey, same_staged, staged_key, ReservedKey, same_reserved, reserved_key, with_keys, AreLotsOf, Each, AreLeast, items_of_lots, lots_and_more, known_row}
 
 abbrev pub AreAllStock : Tables → List StockRow → Type 0
 AreAllStock t rows = AreRows {K = StockKey} same_stock stock_key (λ k. true) (λ k. t.stock k.0 k.1) rows

@@ -1,26 +1,6 @@
 -- The rows by which items are shown.
-use Rattle.std.specs.Prelude.{◌≡◌, ℕ, ℤ, true, List, map, take, Option, Some, None, Result, Ok, Err, option_map, Vec, refl}
-use Rattle.std.proofs.Common.{ap, sym, ◌∙◌, Global}
-use Rattle.commands.specs.Tables.{Tables}
-use Rattle.commands.specs.declared.command.NewItem.{NewItem}
-use Rattle.commands.specs.declared.refusal.Refusal.{Refusal}
-use Rattle.commands.specs.declared.refusal.Refusal.TheVariants.{UnknownItem}
-use Rattle.commands.specs.declared.rows.ItemRow.{ItemRow}
-use Rattle.commands.specs.declared.rows.LeastRow.{LeastRow}
-use Rattle.commands.specs.declared.rows.MetaRow.{MetaRow}
-use Rattle.overviews.specs.declared.lists.TheConstants.{NAMES_MAX}
-use Rattle.overviews.specs.declared.lists.ItemNamesView.{ItemNamesView}
-use Rattle.overviews.specs.Pages.{item_names_view}
-use Rattle.overviews.specs.Shown.{item_names_shown}
-use Rattle.machine.specs.Acts.{Act}
-use Rattle.machine.specs.Standing.{item_named}
-use Rattle.machine.specs.Queries.{if_known}
-use Rattle.machine.specs.Tables.{tables_of}
-use Rattle.table_words.specs.Found.{AreRows}
-use Rattle.table_words.specs.Typed.{ItemKey, same_item, item_key}
-use Rattle.slices.specs.Slicing.{AreLeast}
-use Rattle.views.specs.GivenNames.{items_and_more}
-use Rattle.views.specs.ShownNames.{row_of_item}
+use Rattle.std.specs.Prelude.{◌≡◌}
+use Rattle.queries.specs.Words.{ℕ, ℤ, true, List, map, take, Option, Some, None, Result, Ok, Err, option_map, Vec, refl, ap, sym, ◌∙◌, Global, Tables, NewItem, Refusal, UnknownItem, ItemRow, LeastRow, MetaRow, NAMES_MAX, ItemNamesView, item_names_view, item_names_shown, Act, item_named, if_known, tables_of, AreRows, ItemKey, same_item, item_key, AreLeast, items_and_more, row_of_item}
 
 abbrev pub gtins_of : List ItemRow → List (List ℕ)
 gtins_of items = map (λ i. i.gtin) items

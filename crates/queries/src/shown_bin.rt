@@ -2,7 +2,7 @@
 
 ghost use Rattle.std.specs.Prelude.{◌≡◌, IfOk};
 ghost use Rattle.sqlite.specs.Held.{state};
-ghost use Rattle.known_reads.specs.Reading.{IsRead};
+ghost use Rattle.slices.specs.Reading.{IsRead};
 ghost use Rattle.slices.specs.ByLot.{AreLotsOf};
 ghost use Rattle.slices.specs.Remembering.{Learning};
 ghost use Rattle.slices.specs.Slicing.{items_of_lots as items_of_lots_lem};
@@ -11,19 +11,19 @@ ghost use Rattle.queries.specs.ShownBin.{lots_of_stock as lots_of_stock_lem, Are
 use crate::query::Query;
 use crate::reading::{bin_row, lot_row};
 use commands::{BinRow, ItemRow, LeastRow, Listed, LotRow, MetaRow, RecallRow, Refusal, StockRow};
-use goods_tables::stock::Stock;
 use label::BusinessDay;
 use overviews::BinView;
+use rows_in_memory::day_opening::items_of_lots;
+use rows_in_memory::item_rows::of_item;
+use rows_in_memory::key_list::KeyList;
 use rules::Rows;
-use slice_lists::day_opening::items_of_lots;
-use slice_lists::item_rows::of_item;
-use slice_lists::key_list::KeyList;
 use slices::{
     Known, RowsKnown, known_meta, read_rows, seek_items, seek_least, seek_lots, seek_recalls,
 };
 use sqlite::{Alter, Transaction};
 use std::alloc::{AllocError, Global};
 use table_words::error::TableFault;
+use tables::stock::Stock;
 use values::{LotId, LotKey, Name};
 use views::{bin_page, bin_view, page_of};
 

@@ -2,7 +2,7 @@
 
 ghost use Rattle.std.specs.Prelude.{◌≡◌, IfOk};
 ghost use Rattle.sqlite.specs.Held.{state};
-ghost use Rattle.known_reads.specs.Reading.{IsRead};
+ghost use Rattle.slices.specs.Reading.{IsRead};
 ghost use Rattle.slices.specs.ByLot.{AreLotsOf};
 ghost use Rattle.slices.specs.Remembering.{Learning};
 ghost use Rattle.slices.specs.Slicing.{items_of_lots as items_of_lots_lem};
@@ -14,16 +14,13 @@ use commands::{
     ItemRow, LeastRow, Listed, LotRow, MetaRow, RecallRow, Refusal, ReservedRow, StagedRow,
     StockRow,
 };
-use goods_tables::stock::Stock;
 use keyed_rows::reading::All;
 use label::{BusinessDay, Day};
-use order_tables::reserved::Reserved;
-use order_tables::staged::Staged;
 use overviews::ExpiringView;
+use rows_in_memory::day_opening::items_of_lots;
+use rows_in_memory::item_rows::of_item;
+use rows_in_memory::key_list::KeyList;
 use rules::Rows;
-use slice_lists::day_opening::items_of_lots;
-use slice_lists::item_rows::of_item;
-use slice_lists::key_list::KeyList;
 use slices::{
     Known, RowsKnown, known_meta, read_rows, seek_all, seek_items, seek_least, seek_lots,
     seek_recalls,
@@ -31,6 +28,9 @@ use slices::{
 use sqlite::{Alter, Transaction};
 use std::alloc::{AllocError, Global};
 use table_words::error::TableFault;
+use tables::reserved::Reserved;
+use tables::staged::Staged;
+use tables::stock::Stock;
 use values::{Gtin, LotId, LotKey};
 use views::{expiring_page, expiring_view, page_of};
 use whole_tables::all_rows;

@@ -2,7 +2,7 @@
 
 ghost use Rattle.std.specs.Prelude.{◌≡◌, map};
 ghost use Rattle.sqlite.specs.Held.{state};
-ghost use Rattle.known_reads.specs.Reading.{IsRead};
+ghost use Rattle.slices.specs.Reading.{IsRead};
 ghost use Rattle.slices.specs.Remembering.{Learning};
 ghost use Rattle.slices.specs.Slicing.{AreLeast};
 ghost use Rattle.queries.specs.ShownNames.{gtins_of, IsItemPage, AreNamed};
@@ -10,7 +10,6 @@ ghost use Rattle.queries.specs.ShownNames.{gtins_of, IsItemPage, AreNamed};
 use crate::query::Query;
 use crate::reading::item_row;
 use commands::{ItemRow, LeastRow, MetaRow, Refusal};
-use goods_tables::items::Items;
 use keyed_rows::reading::All;
 use label::BusinessDay;
 use overviews::{ItemNamesView, NAMES_MAX};
@@ -19,6 +18,7 @@ use slices::{Known, RowsKnown, known_meta, read_rows, seek_least};
 use sqlite::{Alter, Transaction};
 use std::alloc::{AllocError, Global};
 use table_words::error::TableFault;
+use tables::items::Items;
 use values::Gtin;
 use views::{front_of, item_names_view, items_page};
 

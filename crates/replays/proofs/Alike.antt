@@ -1,31 +1,25 @@
 -- Tables that find the same are one; the day stands where no day was opened.
-use Rattle.std.proofs.Common.{◌≡◌, false, [], ◌∷◌, refl, ◌∙◌, inl, inr, true≢false}
-use Rattle.std.specs.Prelude.{ℤ}
-use Rattle.std.proofs.lemmas.Bool.{cases_Bool}
-use Rattle.commands.specs.declared.command.Command.{Command}
-use Rattle.commands.specs.declared.command.Command.TheVariants.{Item, Bin, Receive, Move, Count, Adjust, Order, Cancel, Pick, Unpick, Ship, Hold, Release, Recall, OpenDay, Least, Urgent}
-use Rattle.machine.specs.Standing.{day_after_command}
-use Rattle.machine.specs.Tables.{Tables}
-use Rattle.replays.specs.Alike.{OneTables, is_opening, StillTheFirstDay}
+use Rattle.replays.proofs.Words.{◌≡◌, false, [], ◌∷◌, refl, ◌∙◌, inl, inr, true≢false, ℤ, cases_Bool, Command, Item, Bin, Receive, Move, Count, Adjust, Order, Cancel, Pick, Unpick, Ship, Hold, Release, Recall, OpenDay, Least, Urgent, day_after_command, Tables, OneTables, is_opening, StillTheFirstDay}
+use Rattle.whole_tables.specs.declared.key.TableName.TheVariants as table
 
 pub one_tables : OneTables
 one_tables a b h = λ i. let t : Tables = record {
-  meta = h.meta i;
-  item = λ gtin. h.item gtin i;
-  least = λ gtin. h.least gtin i;
-  bin = λ name. h.bin name i;
-  lot = λ l. h.lot l i;
-  recall = λ l. h.recall l i;
-  stock = λ l bin. h.stock l bin i;
-  order = λ order. h.order order i;
-  urgent = λ order. h.urgent order i;
-  line = λ order gtin. h.line order gtin i;
-  staged = λ order l. h.staged order l i;
-  reserved = λ order l. h.reserved order l i;
-  shipment = λ number. h.shipment number i;
-  shipline = λ number l. h.shipline number l i;
-  card = λ l act. h.card l act i;
-  repeat = λ k. h.repeat k i;
+  meta = h table.Meta tt i;
+  item = λ gtin. h table.Items gtin i;
+  least = λ gtin. h table.Least gtin i;
+  bin = λ name. h table.Bins name i;
+  lot = λ l. h table.Lots l i;
+  recall = λ l. h table.Recalls l i;
+  stock = λ l bin. h table.Stock (l, bin) i;
+  order = λ order. h table.Orders order i;
+  urgent = λ order. h table.Urgents order i;
+  line = λ order gtin. h table.Lines (order, gtin) i;
+  staged = λ order l. h table.Staged (order, l) i;
+  reserved = λ order l. h table.Reserved (order, l) i;
+  shipment = λ number. h table.Shipments number i;
+  shipline = λ number l. h table.Shiplines (number, l) i;
+  card = λ l act. h table.Cards (l, act) i;
+  repeat = λ k. h table.Repeats k i;
 } in t
 
 stays : (c : Command) (day : ℤ) → is_opening c ≡ false → day_after_command c day ≡ day

@@ -1,41 +1,7 @@
 -- Acts that open a day before any receives: whatever earlier day they began on, their tables are the same.
-use Rattle.std.proofs.Common.{◌≡◌, ◌≢◌, ℕ, ◌-◌, true, false, List, [], ◌∷◌, ◌++◌, flat_map, filter, map, Option, Some, None, refl, sym, ap, subst, ◌∙◌, arith, IsTrue}
-use Rattle.std.specs.Prelude.{ℤ, pos, if◌then◌else◌, is_some, int_le, int_lt, ◌-ℤ◌}
-use Rattle.std.proofs.lemmas.Bool.{and_from}
-use Rattle.std.proofs.lemmas.Int.{ints}
-use Rattle.std.proofs.lemmas.Option.{same_Some, none-some}
-use Rattle.label.specs.Days.{is_business_day}
-use Rattle.values.specs.Values.{same_text}
-use Rattle.values.specs.declared.lot.LotId.{LotId}
-use Rattle.commands.specs.Lists.{total, in_order}
-use Rattle.plan.specs.Overlap.{plan_rows, reserved_for}
-use Rattle.commands.specs.Spelling.{key_text, spelling}
-use Rattle.commands.specs.Replies.{reply_text}
-use Rattle.commands.specs.declared.replies.ReplyField.TheVariants.{Returned, UnitsShort}
-use Rattle.commands.specs.declared.key.Key.{Key}
-use Rattle.commands.specs.declared.command.Command.{Command}
-use Rattle.commands.specs.declared.command.Command.TheVariants.{Item, Bin, Receive, Move, Count, Adjust, Order, Cancel, Pick, Unpick, Ship, Hold, Release, Recall, OpenDay, Least, Urgent}
-use Rattle.commands.specs.declared.rows.ShipmentRow.{ShipmentRow}
-use Rattle.machine.specs.Acts.{Act, next_number}
-use Rattle.machine.specs.Postings.{Place, Supplier, InBin, Stage, Shipped, WriteOff, Posting, of_item}
-use Rattle.machine.specs.Standing.{KnownLot, lots, lots_of, lot_known, lot_among, is_shippable, order_named, lines_of, shipments, shipments_after, today, day_after_command}
-use Rattle.machine.specs.Ledger.{posted, postings, postings_of}
-use Rattle.machine.specs.Planning.{Booking, bookings, need, demand_of, goes_before, supply_of, supplies, plan, reserved_of, reserved, short_of_order}
-use Rattle.machine.specs.Cards.{cards, card_lines}
-use Rattle.machine.specs.Replies.{further}
-use Rattle.machine.specs.Verdict.{verdict}
-use Rattle.machine.specs.Once.{IsHistory, IsAccepted}
-use Rattle.machine.specs.Tables.{tables_of, repeat_row}
-use Rattle.machine.proofs.Tests.{and_both}
-use Rattle.machine.proofs.histories.Accepted.{room_for_acts, ship_accepted, day_accepted}
-use Rattle.machine.proofs.histories.KnownPlaces.{AllKnown, known_postings}
-use Rattle.spellings.specs.Starting.{told_by, day_before}
-use Rattle.spellings.specs.declared.start.Start.{Start}
-use Rattle.spellings.specs.declared.start.Start.TheVariants.{Received, Opened}
-use Rattle.histories.specs.Start.{told_first, start_of, first_day}
-use Rattle.replays.specs.Starting.{TheDayThatIsToldStands}
-use Rattle.replays.proofs.FirstDay.{none_older, untold_day, untold_lots, first_day_told}
-use Rattle.replays.specs.Alike.{FindTheSame}
+use Rattle.replays.proofs.Words.{◌≡◌, ◌≢◌, ℕ, ◌-◌, true, false, List, [], ◌∷◌, ◌++◌, flat_map, filter, map, Option, Some, None, refl, sym, ap, subst, ◌∙◌, arith, IsTrue, ℤ, pos, if◌then◌else◌, is_some, int_le, int_lt, ◌-ℤ◌, and_from, ints, same_Some, none-some, is_business_day, same_text, LotId, total, in_order, plan_rows, reserved_for, key_text, spelling, reply_text, Returned, UnitsShort, Key, Command, Item, Bin, Receive, Move, Count, Adjust, Order, Cancel, Pick, Unpick, Ship, Hold, Release, Recall, OpenDay, Least, Urgent, ShipmentRow, Act, next_number, Place, Supplier, InBin, Stage, Shipped, WriteOff, Posting, of_item, KnownLot, lots, lots_of, lot_known, lot_among, is_shippable, order_named, lines_of, shipments, shipments_after, today, day_after_command, posted, postings, postings_of, Booking, bookings, need, demand_of, goes_before, supply_of, supplies, plan, reserved_of, reserved, short_of_order, cards, card_lines, further, verdict, IsHistory, IsAccepted, tables_of, repeat_row, and_both, room_for_acts, ship_accepted, day_accepted, AllKnown, known_postings, told_by, day_before, Start, Received, Opened, told_first, start_of, first_day, TheDayThatIsToldStands, none_older, untold_day, untold_lots, FindTheSame}
+use Rattle.replays.proofs.FirstDay.{first_day_told}
+use Rattle.whole_tables.specs.declared.key.TableName.TheVariants as table
 use Rattle.replays.proofs.Alike.{one_tables}
 
 -- ---- acts before any that receives or opens a day: there is no lot, and so no unit
@@ -272,24 +238,17 @@ module _ (first second : ℤ) where
   module _ (acts : List Act) (s : AreSame acts) where
     find_the_same : FindTheSame (tables_of first acts) (tables_of second acts)
     unfolding tables_of
-    find_the_same = record {
-      meta = rw (s.day, s.shipments) refl;
-      item = λ g. refl;
-      least = λ g. refl;
-      bin = λ b. refl;
-      lot = λ l. refl;
-      recall = λ l. refl;
-      stock = λ l b. rw (s.postings) refl;
-      order = λ o. rw (s.postings) refl;
-      urgent = λ o. refl;
-      line = λ o g. rw (s.postings) refl;
-      staged = λ o l. rw (s.postings) refl;
-      reserved = λ o l. let kept = same_reserved acts s.postings s.day o l in rw kept refl;
-      shipment = λ n. rw (s.shipments) refl;
-      shipline = λ n l. rw (s.postings) refl;
-      card = λ l n. rw (s.cards) refl;
-      repeat = s.repeats;
-    }
+    find_the_same table.Meta k = rw (s.day, s.shipments) refl
+    find_the_same table.Stock k = rw (s.postings) refl
+    find_the_same table.Orders k = rw (s.postings) refl
+    find_the_same table.Lines k = rw (s.postings) refl
+    find_the_same table.Staged k = rw (s.postings) refl
+    find_the_same table.Reserved k = let kept = same_reserved acts s.postings s.day k.0 k.1 in rw kept refl
+    find_the_same table.Shipments k = rw (s.shipments) refl
+    find_the_same table.Shiplines k = rw (s.postings) refl
+    find_the_same table.Cards k = rw (s.cards) refl
+    find_the_same table.Repeats k = s.repeats k
+    find_the_same n k = refl
 
 pub earlier_alike : (first second day : ℤ) (acts : List Act) → IsHistory first acts → start_of acts ≡ Some (Opened day) → IsTrue (is_business_day second) → int_lt second day ≡ true
     → IsHistory second acts × (tables_of first acts ≡ tables_of second acts)

@@ -1,22 +1,5 @@
 -- Rows that spell acts, one more at a time.
-use Rattle.std.proofs.Common.{◌≡◌, ℕ, ◌+◌, ◌<◌, true, List, [], ◌∷◌, ◌++◌, length, take, drop, get_or, take-append-drop, None, Result, Ok, Err, IsTrue, true≢false, refl, ap, sym, subst, ◌∙◌}
-use Rattle.std.specs.Prelude.{reverse, ℤ}
-use Rattle.std.proofs.lemmas.List.{reverse-append, take_more}
-use Rattle.std.proofs.lemmas.Option.{none-some}
-use Rattle.sqlite_trees.specs.declared.store.Store.{Ghosts}
-use Rattle.commands.specs.Sound.{is_sound, is_sound_key}
-use Rattle.commands.specs.declared.key.Key.{Key}
-use Rattle.commands.specs.declared.command.Command.{Command}
-use Rattle.commands.specs.declared.refusal.Refusal.{Refusal}
-use Rattle.commands.specs.declared.rows.RepeatRow.{RepeatRow}
-use Rattle.commands.proofs.OneText.{one_text}
-use Rattle.commands.proofs.OneSpelling.{one_spelling}
-use Rattle.machine.specs.Acts.{Act}
-use Rattle.machine.specs.Once.{outcome, is_key_of, IsHistory, IsSoundRequest}
-use Rattle.store.specs.Connected.{Connected}
-use Rattle.histories.proofs.Acts.{earlier}
-use Rattle.replays.specs.Replaying.{cause, IsReplayed, IsRowOf, Spell, IsOfNoAct, IsOfRefused, IsRowReplayed, BreakOff, BreakUnspelled, BreakRefused, AreRowsReplayed}
-use Rattle.replays.specs.declared.fault.NotReplayed.{NotReplayed}
+use Rattle.replays.proofs.Words.{◌≡◌, ℕ, ◌+◌, ◌<◌, true, List, [], ◌∷◌, ◌++◌, length, take, drop, get_or, take-append-drop, None, Result, Ok, Err, IsTrue, true≢false, refl, ap, sym, subst, ◌∙◌, reverse, ℤ, reverse-append, take_more, none-some, Ghosts, is_sound, is_sound_key, Key, Command, Refusal, RepeatRow, one_text, one_spelling, Act, outcome, is_key_of, IsHistory, IsSoundRequest, Connected, earlier, cause, IsReplayed, IsRowOf, Spell, IsOfNoAct, IsOfRefused, IsRowReplayed, BreakOff, BreakUnspelled, BreakRefused, AreRowsReplayed, NotReplayed}
 use Rattle.replays.specs.declared.fault.NotReplayed.TheVariants as fault
 use Rattle.replays.proofs.Steps.{accepted_there}
 

@@ -1,23 +1,5 @@
 -- What the rows of acts tell of the day that these began on.
-use Rattle.std.proofs.Common.{◌≡◌, ℕ, ◌+◌, ◌<◌, true, false, List, [], ◌∷◌, ◌++◌, length, take, drop, get_or, take-append-drop, Option, Some, None, inr, refl, sym, ap, subst, ◌∙◌}
-use Rattle.std.specs.Prelude.{ℤ, reverse, is_some, IsTrue}
-use Rattle.std.proofs.lemmas.List.{take_more, drop_more}
-use Rattle.std.proofs.lemmas.Option.{same_Some, none-some}
-use Rattle.commands.specs.Sound.{is_sound}
-use Rattle.commands.specs.Spelling.{spelling}
-use Rattle.commands.specs.declared.command.Command.{Command}
-use Rattle.commands.specs.declared.rows.RepeatRow.{RepeatRow}
-use Rattle.spellings.specs.Starting.{told_by, Tells, IsReadFrom}
-use Rattle.spellings.specs.declared.start.Start.{Start}
-use Rattle.spellings.proofs.Starting.{told_as}
-use Rattle.machine.specs.Acts.{Act, next_number}
-use Rattle.machine.specs.Once.{IsHistory}
-use Rattle.histories.specs.Books.{row_of}
-use Rattle.histories.specs.Start.{told_first, start_of}
-use Rattle.histories.proofs.Acts.{earlier}
-use Rattle.histories.proofs.Begun.{start_kept}
-use Rattle.replays.specs.Spelled.{spelled_rows}
-use Rattle.replays.specs.Starting.{TellNothing, TellFirst, Tell}
+use Rattle.replays.proofs.Words.{◌≡◌, ℕ, ◌+◌, ◌<◌, true, false, List, [], ◌∷◌, ◌++◌, length, take, drop, get_or, take-append-drop, Option, Some, None, inr, refl, sym, ap, subst, ◌∙◌, ℤ, reverse, is_some, IsTrue, take_more, drop_more, same_Some, none-some, is_sound, spelling, Command, RepeatRow, told_by, Tells, IsReadFrom, Start, told_as, Act, next_number, IsHistory, row_of, told_first, start_of, earlier, start_kept, spelled_rows, TellNothing, TellFirst, Tell}
 use Rattle.replays.proofs.RowSteps.{rows_more, rows_parts}
 
 -- the older rows are those of the older acts

@@ -1,11 +1,5 @@
 -- One act that is done again, and then another.
-use Rattle.std.proofs.Common.{◌≡◌, ℕ, List, ◌∷◌, ap, sym, subst, ◌∙◌}
-use Rattle.std.specs.Prelude.{ℤ}
-use Rattle.commands.specs.declared.refusal.Refusal.{Refusal}
-use Rattle.machine.specs.Acts.{Act}
-use Rattle.machine.specs.Replies.{reply}
-use Rattle.machine.specs.Once.{Accepted, Repeated, Refused, judged, told_again, outcome, appended, acts_after, IsAccepted, IsHistory, IsSoundRequest}
-use Rattle.machine.proofs.histories.Runs.{history_after}
+use Rattle.replays.proofs.Words.{◌≡◌, ℕ, List, ◌∷◌, ap, sym, subst, ◌∙◌, ℤ, Refusal, Act, reply, Accepted, Repeated, Refused, judged, told_again, outcome, appended, acts_after, IsAccepted, IsHistory, IsSoundRequest, history_after}
 
 -- an act of a history was accepted where it stands
 pub accepted_there : (first : ℤ) (act : Act) (before : List Act) → IsAccepted first act before → outcome first before act ≡ Accepted (reply first act before)

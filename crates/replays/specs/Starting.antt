@@ -2,9 +2,9 @@
 use Rattle.std.specs.Prelude.{◌≡◌, ◌≢◌, ◌⊎◌, List, ◌∷◌, ◌++◌, reverse, Option, Some, None, ℤ}
 use Rattle.std.specs.List.{AllByRecursion}
 use Rattle.commands.specs.declared.rows.RepeatRow.{RepeatRow}
-use Rattle.spellings.specs.Starting.{Tells, SpellsNone}
-use Rattle.spellings.specs.declared.start.Start.{Start}
-use Rattle.spellings.specs.declared.start.Start.TheVariants.{Opened}
+use Rattle.texts.specs.Starting.{Tells, SpellsNone}
+use Rattle.texts.specs.declared.start.Start.{Start}
+use Rattle.texts.specs.declared.start.Start.TheVariants.{Opened}
 use Rattle.machine.specs.Acts.{Act}
 use Rattle.machine.specs.Once.{IsHistory}
 use Rattle.machine.specs.Tables.{tables_of}

@@ -10,10 +10,10 @@ use crate::again::act_again;
 use crate::{NotReplayed, Progress};
 use commands::RepeatRow;
 use commands::laws::{every_command_is_sound, every_key_is_sound};
-use spellings::{parse, parse_key};
 use sqlite::Alter;
 use std::alloc::Global;
 use store::Books;
+use texts::{parse, parse_key};
 
 /// Does the acts again that the rows of `repeats` spell, on books in which nothing has been done. The newest row is the first,
 /// and each is let go once its act is done. `Ok` exactly where the rows spell a history from the books' day, as far as memory

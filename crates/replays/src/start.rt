@@ -4,8 +4,8 @@ ghost use Rattle.std.specs.Prelude.{IfOk};
 ghost use Rattle.replays.specs.Starting.{Tell, TellFirst};
 
 use commands::RepeatRow;
-use spellings::{Start, told_by_row};
 use std::alloc::{AllocError, Global};
+use texts::{Start, told_by_row};
 
 /// What the oldest act tells that receives or opens a day; `None` where none does. The rows of `repeats` are the oldest
 /// first; one whose spelling is none ends the search.

@@ -1,17 +1,5 @@
 -- What a request asks, step by step.
-use Rattle.std.proofs.Common.{◌≡◌, ◌≢◌, ◌∙◌, ap, refl, ℕ, List, Bool, Option, Some, Err, if◌then◌else◌}
-use Rattle.std.specs.Option.{ok_or}
-use Rattle.std.specs.Str.{bytes_eq}
-use Rattle.serde_json.specs.Data.{Data}
-use Rattle.requests.specs.Fields.{json}
-use Rattle.requests.specs.Bodies.{body_of}
-use Rattle.requests.specs.Routes.{route_of, method_of, method_name}
-use Rattle.requests.specs.Requests.{valued, posted, read_route, read_method, read_ask}
-use Rattle.requests.specs.declared.ask.Ask.{Ask}
-use Rattle.requests.specs.declared.fault.WireFault.TheVariants.{Field, Method}
-use Rattle.requests.specs.declared.routes.Route.{Route}
-use Rattle.requests.specs.declared.routes.Posted.{Posted}
-use Rattle.requests.specs.declared.routes.Posted.TheVariants.{Items, Bins, Receipts, Moves, Counts, Adjustments, Orders, Cancels, Picks, Unpicks, Shipments, Holds, Releases, Recalls, Days, Leasts, Urgents, GoodsIn}
+use Rattle.requests.proofs.Words.{◌≡◌, ◌≢◌, ◌∙◌, ap, refl, ℕ, List, Bool, Option, Some, Err, if◌then◌else◌, ok_or, bytes_eq, Data, json, body_of, route_of, method_of, method_name, valued, posted, read_route, read_method, read_ask, Ask, Field, Method, Route, Posted, Items, Bins, Receipts, Moves, Counts, Adjustments, Orders, Cancels, Picks, Unpicks, Shipments, Holds, Releases, Recalls, Days, Leasts, Urgents, GoodsIn}
 
 -- what is no file is JSON
 as_json : (p : Posted) (body : List ℕ) → p ≢ GoodsIn → posted p body ≡ valued p (json body)

@@ -1,24 +1,8 @@
 -- Readings of some texts.
-use Rattle.std.proofs.Common.{◌≡◌, codes, refl, [], ◌∷◌, Some, None, Ok, Err, option_map}
-use Rattle.std.specs.Prelude.{negsuc}
+use Rattle.requests.proofs.Words.{◌≡◌, codes, refl, [], ◌∷◌, Some, None, Ok, Err, option_map, negsuc, read, table, route_of, length_value, body_length, read_ask, second_segment, third_segment, inner_segment, fourth_segment, query_of, whole_at, delta_at, body_of, Plain, Item, Count, Least, Urgent, Length, Path, Field, TooLarge, Method as OtherMethod, Get, Post, PostTo, GetOf, Items, Bins, Receipts, Counts, Orders, Recalls, Days, Leasts, Urgents, GoodsIn, AnOrder, TheStock, APickList, TheShortages, Card, ANotice, Books, OpenOrders, OpenOrdersBehind, ItemNames, ItemNamesBehind, Expiring, ExpiringBehind, Bin, BinBehind, Do, FileOf, CardOf, OpenOrdersFrom, BinFrom}
 use Rattle.serde_json.proofs.OnLiterals.{serde_json_on_literals}
 use Rattle.matchit.proofs.OnLiterals.{matchit_on_literals}
 use Rattle.percent_encoding.specs.Percent.{percent_decode}
-use Rattle.serde_json.specs.Read.{read}
-use Rattle.requests.specs.Routes.{table, route_of}
-use Rattle.requests.specs.Head.{length_value, body_length}
-use Rattle.requests.specs.Requests.{read_ask, second_segment, third_segment, inner_segment, fourth_segment, query_of}
-use Rattle.requests.specs.Fields.{whole_at, delta_at}
-use Rattle.requests.specs.Bodies.{body_of}
-use Rattle.commands.specs.declared.key.Key.TheVariants.{Plain}
-use Rattle.commands.specs.declared.command.Command.TheVariants.{Item, Count, Least, Urgent}
-use Rattle.requests.specs.declared.fault.WireFault.TheVariants.{Length, Path, Field, TooLarge, Method as OtherMethod}
-use Rattle.requests.specs.declared.method.Method.TheVariants.{Get, Post}
-use Rattle.requests.specs.declared.routes.Route.TheVariants.{Post as PostTo, Get as GetOf}
-use Rattle.requests.specs.declared.routes.Posted.TheVariants.{Items, Bins, Receipts, Counts, Orders, Recalls, Days, Leasts, Urgents, GoodsIn}
-use Rattle.requests.specs.declared.routes.Shown.TheVariants.{Order as AnOrder, Stock as TheStock, PickList as APickList, Shortages as TheShortages, Card, Notice as ANotice, Books, OpenOrders, OpenOrdersBehind, ItemNames, ItemNamesBehind, Expiring, ExpiringBehind, Bin, BinBehind}
-use Rattle.requests.specs.declared.ask.Ask.TheVariants.{Do, GoodsIn as FileOf}
-use Rattle.requests.specs.declared.ask.Query.TheVariants.{Card as CardOf, OpenOrders as OpenOrdersFrom, Bin as BinFrom}
 
 -- routes
 

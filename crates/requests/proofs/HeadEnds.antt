@@ -1,7 +1,5 @@
 -- The end of a head.
-use Rattle.std.proofs.Common.{◌≡◌, ◌∙◌, ap, refl, sym, ℕ, ◌+◌, ◌<◌, List, ◌∷◌, length, take, drop, get_or, true, false, Option, Some, None, option_map, arith, add-one, drop-cons}
-use Rattle.std.specs.Str.{bytes_eq}
-use Rattle.requests.specs.Head.{head_end, BLANK_LINE}
+use Rattle.requests.proofs.Words.{◌≡◌, ◌∙◌, ap, refl, sym, ℕ, ◌+◌, ◌<◌, List, ◌∷◌, length, take, drop, get_or, true, false, Option, Some, None, option_map, arith, add-one, drop-cons, bytes_eq, head_end, BLANK_LINE}
 
 later : (x : ℕ) (r : List ℕ) → bytes_eq (take 4 (x ∷ r)) BLANK_LINE ≡ false → head_end (x ∷ r) ≡ option_map (λ n. n + 1) (head_end r)
 later x r e = rw e refl

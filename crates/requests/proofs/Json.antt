@@ -1,10 +1,5 @@
 -- Bytes that are no JSON.
-use Rattle.std.proofs.Common.{◌≡◌, refl, ℕ, List, Bool, true, false, Option, Some, None, if◌then◌else◌}
-use Rattle.std.specs.Str.{IsUtf8, is_utf8}
-use Rattle.std.proofs.lemmas.Str.{IsUtf8-from_is_utf8, is_utf8-from_IsUtf8}
-use Rattle.serde_json.specs.Data.{Data}
-use Rattle.serde_json.specs.Read.{read}
-use Rattle.requests.specs.Fields.{json}
+use Rattle.requests.proofs.Words.{◌≡◌, refl, ℕ, List, Bool, true, false, Option, Some, None, if◌then◌else◌, IsUtf8, is_utf8, IsUtf8-from_is_utf8, is_utf8-from_IsUtf8, Data, read, json}
 
 pick : (b : Bool) (x : Option Data) → (b ≡ true → x ≡ None) → (if b then x else None) ≡ None
 pick true x h = h refl

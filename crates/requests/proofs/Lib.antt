@@ -1,3 +1,4 @@
+mod Words
 pub mod HeadEnds
 pub mod Json
 pub mod Asked

@@ -1,10 +1,5 @@
 -- The lines of an order, one after another.
-use Rattle.std.proofs.Common.{◌≡◌, ◌∙◌, ap, refl, sym, ℕ, suc, ◌+◌, ◌<◌, List, [], ◌∷◌, ◌++◌, length, drop, get_or, Option, Some, None, option_map, add-one, drop-cons, append_assoc, append-nil, ◌≤◌}
-use Rattle.std.proofs.lemmas.List.{drop_all}
-use Rattle.serde_json.specs.View.{view, items_view}
-use Rattle.serde_json.specs.declared.value.Value.{Value}
-use Rattle.commands.specs.declared.command.OrderLine.{OrderLine}
-use Rattle.requests.specs.Bodies.{line_of, lines_of}
+use Rattle.requests.proofs.Words.{◌≡◌, ◌∙◌, ap, refl, sym, ℕ, suc, ◌+◌, ◌<◌, List, [], ◌∷◌, ◌++◌, length, drop, get_or, Option, Some, None, option_map, add-one, drop-cons, append_assoc, append-nil, ◌≤◌, drop_all, view, items_view, Value, OrderLine, line_of, lines_of}
 
 -- where the line cannot be read, the lines cannot
 pub no_line : (v : Value) (vs : List Value) → line_of (view v) ≡ None → lines_of (items_view (v ∷ vs)) ≡ None

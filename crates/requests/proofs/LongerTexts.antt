@@ -1,21 +1,6 @@
 -- The reading of a text that is followed by more bytes.
-use Rattle.std.proofs.Common.{◌≡◌, ◌∙◌, ap, sym, refl, inl, inr, ℕ, ◌+◌, ◌-◌, ◌≤◌, ◌<◌, min, Bool, true, false, if◌then◌else◌, arith, List, [], ◌∷◌, ◌++◌, length, take, drop, Option, Some, None, option_map, MatchOption, Result, Ok, Err, length-append, length-take, unwrap_or}
-use Rattle.std.specs.Prelude.{nat_lt}
-use Rattle.std.specs.Str.{bytes_eq}
-use Rattle.std.proofs.lemmas.Bool.Decides.{nat_tests}
-use Rattle.std.proofs.lemmas.Slice.Eq.{bytes_eq-Decides}
-use Rattle.std.proofs.lemmas.Option.{none-some}
-use Rattle.std.proofs.lemmas.List.{take-append-le, drop-append-le}
-use Rattle.requests.specs.declared.fault.WireFault.{WireFault}
-use Rattle.requests.specs.declared.fault.WireFault.TheVariants.{Head, Length, TooLarge}
-use Rattle.requests.specs.declared.request.Read.{Read}
-use Rattle.requests.specs.declared.request.Read.TheVariants.{Need, Bad}
-use Rattle.requests.specs.Head.{HEAD_MAX, BLANK_LINE, head_end, fields_of, body_length}
-use Rattle.requests.specs.Requests.{headless, after_head, answered, read_ask, IsCutReading, IsReading}
-use Rattle.requests.specs.Laws.{needs_more, IsSettled}
-use Rattle.requests.specs.declared.ask.Ask.{Ask}
+use Rattle.requests.proofs.Words.{◌≡◌, ◌∙◌, ap, sym, refl, inl, inr, ℕ, ◌+◌, ◌-◌, ◌≤◌, ◌<◌, min, Bool, true, false, if◌then◌else◌, arith, List, [], ◌∷◌, ◌++◌, length, take, drop, Option, Some, None, option_map, MatchOption, Result, Ok, Err, length-append, length-take, unwrap_or, nat_lt, bytes_eq, nat_tests, bytes_eq-Decides, none-some, take-append-le, drop-append-le, WireFault, Head, Length, TooLarge, Read, Need, Bad, HEAD_MAX, BLANK_LINE, head_end, fields_of, body_length, headless, after_head, answered, read_ask, IsCutReading, IsReading, needs_more, IsSettled, Ask, take-append-add}
 use Rattle.requests.proofs.Readings.{all_room, too_long, no_end, some_end}
-use Rattle.std.proofs.Math.Seq.{take-append-add}
 
 -- an empty line has four bytes
 has_four : (s : List ℕ) → bytes_eq (take 4 s) BLANK_LINE ≡ true → 4 ≤ length s

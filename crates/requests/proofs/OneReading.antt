@@ -1,9 +1,5 @@
 -- A text has one reading.
-use Rattle.std.proofs.Common.{◌≡◌, ◌∙◌, ap, sym, inl, inr, ℕ, List, [], take, drop, Option, Some, None, MatchOption}
-use Rattle.httparse.proofs.GrammarLemmas.{request_unique}
-use Rattle.requests.specs.Head.{HEAD_MAX, head_end, fields_of, body_length}
-use Rattle.requests.specs.Requests.{headless, after_head, IsCutReading, IsReading}
-use Rattle.requests.specs.declared.request.Read.{Read}
+use Rattle.requests.proofs.Words.{◌≡◌, ◌∙◌, ap, sym, inl, inr, ℕ, List, [], take, drop, Option, Some, None, MatchOption, request_unique, HEAD_MAX, head_end, fields_of, body_length, headless, after_head, IsCutReading, IsReading, Read}
 
 one_cut : (head rest : List ℕ) (a b : Read) → IsCutReading head rest a → IsCutReading head rest b → a ≡ b
 one_cut head rest a b (inl x) (inl y) =

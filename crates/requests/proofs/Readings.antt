@@ -1,16 +1,5 @@
 -- The reading of a text, by the end of its head.
-use Rattle.std.proofs.Common.{◌≡◌, ◌∙◌, ap, sym, refl, inl, inr, ℕ, ◌≤◌, ◌<◌, min, true, false, arith, List, length, take, drop, Some, None, Result}
-use Rattle.std.specs.Prelude.{nat_lt}
-use Rattle.std.proofs.lemmas.Bool.Decides.{nat_tests}
-use Rattle.std.proofs.lemmas.List.{take_min}
-use Rattle.std.proofs.Math.Seq.{take-length}
-use Rattle.httparse.specs.Grammar.{RequestHead}
-use Rattle.requests.specs.declared.fault.WireFault.{WireFault}
-use Rattle.requests.specs.declared.fault.WireFault.TheVariants.{Head, TooLarge}
-use Rattle.requests.specs.Head.{HEAD_MAX, head_end, IsHead, fields_of, body_length}
-use Rattle.requests.specs.Requests.{headless, after_head, IsCutReading, IsReading}
-use Rattle.requests.specs.declared.request.Read.{Read}
-use Rattle.requests.specs.declared.request.Read.TheVariants.{Need, Bad}
+use Rattle.requests.proofs.Words.{◌≡◌, ◌∙◌, ap, sym, refl, inl, inr, ℕ, ◌≤◌, ◌<◌, min, true, false, arith, List, length, take, drop, Some, None, Result, nat_lt, nat_tests, take_min, take-length, RequestHead, WireFault, Head, TooLarge, HEAD_MAX, head_end, IsHead, fields_of, body_length, headless, after_head, IsCutReading, IsReading, Read, Need, Bad}
 
 pub no_end : (text : List ℕ) (r : Read) → head_end (take HEAD_MAX text) ≡ None → r ≡ headless text → IsReading text r
 no_end text r e h = rw e h

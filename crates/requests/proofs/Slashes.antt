@@ -1,8 +1,5 @@
 -- What stands before a slash, and behind it, as a loop goes through a text.
-use Rattle.std.proofs.Common.{◌≡◌, ◌∙◌, ap, sym, ℕ, ◌+◌, ◌<◌, List, [], ◌∷◌, ◌++◌, length, take, drop, get_or, if◌then◌else◌, append_assoc}
-use Rattle.std.proofs.lemmas.Bool.{ne_eqb}
-use Rattle.std.proofs.lemmas.List.{at_drop_more, take_more}
-use Rattle.requests.specs.Requests.{after_slash, before_slash}
+use Rattle.requests.proofs.Words.{◌≡◌, ◌∙◌, ap, sym, ℕ, ◌+◌, ◌<◌, List, [], ◌∷◌, ◌++◌, length, take, drop, get_or, if◌then◌else◌, append_assoc, ne_eqb, at_drop_more, take_more, after_slash, before_slash}
 
 pub after_later : (s : List ℕ) (i : ℕ) → i < length s → (get_or s i 0 ≡ 47 → ⊥) → after_slash (drop i s) ≡ after_slash s
     → after_slash (drop (i + 1) s) ≡ after_slash s

@@ -1,14 +1,5 @@
 -- One demand in the place of the first ones of a cut.
-use Rattle.std.proofs.Common.{◌≡◌, ℕ, ◌≤◌, List, ap, sym, subst, ◌∙◌, arith}
-use Rattle.plan.specs.declared.Demand.{Demand}
-use Rattle.plan.specs.declared.Supply.{Supply}
-use Rattle.plan.specs.declared.Row.{Row}
-use Rattle.plan.specs.Overlap.{plan_rows, demand_total, supply_total}
-use Rattle.plan.specs.Limits.{AreSmall}
-use Rattle.plan.specs.declared.TheConstants.{SUM_MAX}
-use Rattle.plan.specs.Changes.{HasFront, IsCut}
-use Rattle.plan.proofs.OneInFront.{one_total, one_kept}
-use Rattle.row_rules.specs.Replanning.{first_as_one}
+use Rattle.row_rules.proofs.Words.{◌≡◌, ℕ, ◌≤◌, List, ap, sym, subst, ◌∙◌, arith, Demand, Supply, Row, plan_rows, demand_total, supply_total, AreSmall, SUM_MAX, HasFront, IsCut, one_total, one_kept, first_as_one}
 
 -- the sums stay
 pub one_small : (n : ℕ) (ds : List Demand) (ss : List Supply) (es : List Demand) → es ≡ first_as_one n ds → AreSmall ds ss → AreSmall es ss

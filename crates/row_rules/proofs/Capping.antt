@@ -1,12 +1,5 @@
 -- Sums that stop at the cap, and the first refusal along a list.
-use Rattle.std.proofs.Common.{◌≡◌, ℕ, ◌+◌, ◌≤◌, ◌<◌, min, Bool, true, false, List, length, get_or, drop, ap, sym, ◌∙◌, arith}
-use Rattle.std.specs.Prelude.{Some, if◌then◌else◌}
-use Rattle.std.proofs.Math.Seq.{drop-length}
-use Rattle.plan.proofs.Running.{drop_from}
-use Rattle.commands.specs.Lists.{total}
-use Rattle.row_rules.specs.Seen.{CAP, capped}
-use Rattle.machine.specs.Verdict.{Judgement, first_refusal}
-use Rattle.commands.specs.declared.refusal.Refusal.{Refusal}
+use Rattle.row_rules.proofs.Words.{◌≡◌, ℕ, ◌+◌, ◌≤◌, ◌<◌, min, Bool, true, false, List, length, get_or, drop, ap, sym, ◌∙◌, arith, Some, if◌then◌else◌, drop-length, drop_from, total, CAP, capped, Judgement, first_refusal, Refusal}
 
 pub record IsCapped {X : Type 0} (f : X → ℕ) (xs : List X) (i sum : ℕ) : Type 0 where
   pub so_far : capped (sum + total f (drop i xs)) ≡ capped (total f xs)

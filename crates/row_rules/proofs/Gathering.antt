@@ -1,17 +1,7 @@
 -- Loops that gather what each element of a list gives, and a search for an item that is named twice.
-use Rattle.std.proofs.Common.{◌≡◌, ℕ, ◌+◌, ◌<◌, Bool, true, false, List, ◌∷◌, ◌++◌, length, get_or, drop, refl, ap, sym, ◌∙◌, append_assoc}
-use Rattle.std.specs.Prelude.{◌||◌, not, min, if◌then◌else◌, [], map, filter, flat_map}
-use Rattle.std.specs.List.{list_any}
-use Rattle.std.proofs.Math.Seq.{drop-length}
-use Rattle.plan.proofs.Running.{drop_from}
-use Rattle.values.specs.Values.{same_text}
-use Rattle.commands.specs.declared.command.OrderLine.{OrderLine}
-use Rattle.commands.specs.declared.rows.ReservedRow.{ReservedRow}
-use Rattle.machine.specs.Verdict.{names_item_twice}
+use Rattle.row_rules.proofs.Words.{◌≡◌, ℕ, ◌+◌, ◌<◌, Bool, true, false, List, ◌∷◌, ◌++◌, length, get_or, drop, refl, ap, sym, ◌∙◌, append_assoc, ◌||◌, not, min, if◌then◌else◌, [], map, filter, flat_map, list_any, drop-length, drop_from, same_text, OrderLine, ReservedRow, names_item_twice, CAP, capped, total}
 use Rattle.row_rules.proofs.Walking.{append_none, drop_end}
 use Rattle.row_rules.proofs.Capping.{IsCapped, capped_none, capped_more, capped_all}
-use Rattle.row_rules.specs.Seen.{CAP, capped}
-use Rattle.commands.specs.Lists.{total}
 
 -- gathered one by one
 pub record IsGathered {X Y : Type 0} (f : X → List Y) (xs : List X) (i : ℕ) (out : List Y) : Type 0 where

@@ -1,7 +1,5 @@
 -- A loop over items that gathers the reserved rows that each puts and drops.
-use Rattle.std.proofs.Common.{◌≡◌, ℕ, ◌+◌, ◌<◌, List, ◌++◌, length, get_or}
-use Rattle.std.specs.Prelude.{[], flat_map}
-use Rattle.commands.specs.declared.rows.ReservedRow.{ReservedRow}
+use Rattle.row_rules.proofs.Words.{◌≡◌, ℕ, ◌+◌, ◌<◌, List, ◌++◌, length, get_or, [], flat_map, ReservedRow}
 use Rattle.row_rules.proofs.Gathering.{IsGathered, gathered_none, gathered_more, gathered_all}
 
 -- the rows put and dropped, item by item

@@ -1,23 +1,5 @@
 -- What is sought among the rows that are given for a text is what is sought among all rows; and how the rows come to stand with their texts and numbers.
-use Rattle.std.proofs.Common.{◌≡◌, ℕ, ◌+◌, ◌<◌, Bool, true, false, cond, List, [], ◌∷◌, ◌++◌, length, get_or, take, refl, ap, sym, ◌∙◌, arith}
-use Rattle.std.specs.Prelude.{◌==◌, ◌||◌, if◌then◌else◌, map, flat_map, reverse, filter, find, Option, Some, None, is_some, Result, Ok, Err, OnOk, Vec}
-use Rattle.std.specs.List.{list_any}
-use Rattle.std.specs.Option.{option_or}
-use Rattle.std.specs.Ordering.{nat_cmp}
-use Rattle.std.specs.Cmp.{unsigned_tied}
-use Rattle.std.specs.Cmp.Lexicographic.{slice_cmp, texts_ties}
-use Rattle.std.specs.BTreeMap.{BTreeMap, get, is_at}
-use Rattle.std.specs.Map.{lookup}
-use Rattle.std.proofs.lemmas.List.{take_more}
-use Rattle.std.proofs.lemmas.List.Folds.{find-append}
-use Rattle.std.proofs.lemmas.Map.Lookups.{exact_bytes, exact_unsigned}
-use Rattle.std.proofs.lemmas.Map.Views.{tells_apart}
-use Rattle.values.specs.Values.{same_text}
-use Rattle.values.proofs.Turned.{turned_same}
-use Rattle.commands.specs.Lists.{total}
-use Rattle.machine.proofs.Tests.{same_text_turned}
-use Rattle.machine.proofs.Numbers.{equal_turned}
-use Rattle.row_rules.specs.LookUps.{rows_or}
+use Rattle.row_rules.proofs.Words.{◌≡◌, ℕ, ◌+◌, ◌<◌, Bool, true, false, cond, List, [], ◌∷◌, ◌++◌, length, get_or, take, refl, ap, sym, ◌∙◌, arith, ◌==◌, ◌||◌, if◌then◌else◌, map, flat_map, reverse, filter, find, Option, Some, None, is_some, Result, Ok, Err, OnOk, Vec, list_any, option_or, nat_cmp, unsigned_tied, slice_cmp, texts_ties, BTreeMap, get, is_at, lookup, take_more, find-append, exact_bytes, exact_unsigned, tells_apart, same_text, turned_same, total, same_text_turned, equal_turned, rows_or}
 use Rattle.row_rules.proofs.Walking.{append_none}
 
 -- A part of a list

@@ -1,15 +1,5 @@
 -- A plan's rows by the names of orders and lots.
-use Rattle.std.proofs.Common.{◌≡◌, ℕ, ◌+◌, ◌<◌, List, [], ◌∷◌, ◌++◌, length, get_or, drop, refl, ap, sym, ◌∙◌, append_assoc}
-use Rattle.std.specs.Prelude.{Option, Some, None}
-use Rattle.std.specs.List.{cons_option}
-use Rattle.std.proofs.Math.Seq.{drop-length}
-use Rattle.plan.proofs.Running.{drop_from}
-use Rattle.plan.specs.declared.Row.{Row}
-use Rattle.commands.specs.declared.rows.OrderRow.{OrderRow}
-use Rattle.commands.specs.declared.rows.LotRow.{LotRow}
-use Rattle.commands.specs.declared.rows.ReservedRow.{ReservedRow}
-use Rattle.row_rules.specs.Plans.{named_rows, named_row}
-use Rattle.row_rules.specs.LookUps.{rows_named, GivesFirst}
+use Rattle.row_rules.proofs.Words.{◌≡◌, ℕ, ◌+◌, ◌<◌, List, [], ◌∷◌, ◌++◌, length, get_or, drop, refl, ap, sym, ◌∙◌, append_assoc, Option, Some, None, cons_option, drop-length, drop_from, Row, OrderRow, LotRow, ReservedRow, named_rows, named_row, rows_named, GivesFirst}
 use Rattle.row_rules.proofs.Walking.{append_none}
 
 some_behind : (x : Option ReservedRow) (out rest : List ReservedRow) → (out ++ cons_option x []) ++ rest ≡ out ++ cons_option x rest

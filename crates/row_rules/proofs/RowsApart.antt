@@ -1,37 +1,12 @@
 -- Rows of a plan that another plan does not have.
-use Rattle.std.proofs.Common.{◌≡◌, ℕ, ◌+◌, ◌<◌, Bool, true, false, ◌&&◌, not, cond, List, [], ◌∷◌, ◌++◌, length, get_or, take, drop, refl, ap, sym, ◌∙◌, append_assoc}
-use Rattle.std.specs.Prelude.{◌==◌, ◌||◌, if◌then◌else◌, filter}
-use Rattle.std.specs.List.{list_any}
-use Rattle.std.specs.declared.cmp.Ordering.{Ordering}
-use Rattle.std.specs.declared.cmp.Ordering.TheVariants.{Less, Equal, Greater}
-use Rattle.std.specs.Ordering.{nat_cmp, ordering_then, is_eq}
-use Rattle.std.specs.Cmp.{unsigned_tied}
-use Rattle.std.specs.BTreeMap.{is_at}
-use Rattle.std.specs.BTreeSet.{BTreeSet, contains}
-use Rattle.std.proofs.lemmas.List.{take_more, take-append-drop}
-use Rattle.plan.proofs.Running.{drop_from}
-use Rattle.plan.specs.declared.Row.{Row}
-use Rattle.machine.proofs.Numbers.{equal_turned}
-use Rattle.row_rules.specs.Apart.{RowKey, row_key, row_cmp, HasRows}
-use Rattle.row_rules.specs.Replanning.{same_row, rows_apart}
+use Rattle.row_rules.proofs.Words.{◌≡◌, ℕ, ◌+◌, ◌<◌, Bool, true, false, ◌&&◌, not, cond, List, [], ◌∷◌, ◌++◌, length, get_or, take, drop, refl, ap, sym, ◌∙◌, append_assoc, ◌==◌, ◌||◌, if◌then◌else◌, list_any, Ordering, Less, Equal, Greater, nat_cmp, ordering_then, is_eq, unsigned_tied, is_at, BTreeSet, contains, take_more, take-append-drop, list_any-append, filter-append, drop_from, Row, equal_turned, RowKey, row_key, row_cmp, HasRows, same_row, rows_apart}
 use Rattle.row_rules.proofs.Walking.{append_none, drop_end}
 
 -- A list in parts
 
-pub filter_append : {X : Type 0} (test : X → Bool) (xs ys : List X) → filter test (xs ++ ys) ≡ filter test xs ++ filter test ys
-filter_append test [] ys = refl
-filter_append test (x ∷ xs) ys = elim (test x) as (λ b. (if b then x ∷ filter test (xs ++ ys) else filter test (xs ++ ys)) ≡ (if b then x ∷ filter test xs else filter test xs) ++ filter test ys) [
-  | true ↦ ap (λ zs. x ∷ zs) (filter_append test xs ys)
-  | false ↦ filter_append test xs ys
-]
-
-pub any_append : {X : Type 0} (test : X → Bool) (xs ys : List X) → list_any test (xs ++ ys) ≡ list_any test xs || list_any test ys
-any_append test [] ys = refl
-any_append test (x ∷ xs) ys = elim (test x) as (λ b. b || list_any test (xs ++ ys) ≡ (b || list_any test xs) || list_any test ys) [ true ↦ refl | false ↦ any_append test xs ys ]
-
 any_behind : {X : Type 0} (test : X → Bool) (xs : List X) (i : ℕ) → list_any test (drop i xs) ≡ true → list_any test xs ≡ true
 any_behind test xs i e =
-    ap (list_any test) (sym (take-append-drop i xs)) ∙ any_append test (take i xs) (drop i xs) ∙ ap (λ b. list_any test (take i xs) || b) e ∙ always (list_any test (take i xs))
+    ap (list_any test) (sym (take-append-drop i xs)) ∙ list_any-append test (take i xs) (drop i xs) ∙ ap (λ b. list_any test (take i xs) || b) e ∙ always (list_any test (take i xs))
   where
     always : (b : Bool) → b || true ≡ true
     always true = refl
@@ -40,7 +15,7 @@ any_behind test xs i e =
 -- what passes in a part of a list passes in the list
 pub any_within : {X : Type 0} (test : X → Bool) (xs : List X) (i n : ℕ) → list_any test (take n (drop i xs)) ≡ true → list_any test xs ≡ true
 any_within test xs i n e =
-    any_behind test xs i (ap (list_any test) (sym (take-append-drop n (drop i xs))) ∙ any_append test (take n (drop i xs)) (drop n (drop i xs)) ∙ ap (λ b. b || list_any test (drop n (drop i xs))) e)
+    any_behind test xs i (ap (list_any test) (sym (take-append-drop n (drop i xs))) ∙ list_any-append test (take n (drop i xs)) (drop n (drop i xs)) ∙ ap (λ b. b || list_any test (drop n (drop i xs))) e)
 
 -- Those left of rows, with the rest, are apart as all are
 
@@ -58,8 +33,8 @@ left_more others rows i out none new met h s there e = record {
       ∙ elim met as (λ b. met ≡ b → rows_apart others (out ++ (if not b then get_or rows i none ∷ [] else [])) ++ rows_apart others (drop (i + 1) rows) ≡ rows_apart others out ++ rows_apart others (get_or rows i none ∷ drop (i + 1) rows)) [
         | true ↦ λ m. ap (λ ys. rows_apart others ys ++ rows_apart others (drop (i + 1) rows)) (append_none out) ∙ sym (ap (λ b. rows_apart others out ++ (if not b then get_or rows i none ∷ rows_apart others (drop (i + 1) rows) else rows_apart others (drop (i + 1) rows))) (there m))
         | false ↦ λ m.
-            ap (λ ys. ys ++ rows_apart others (drop (i + 1) rows)) (filter_append (λ r. not (list_any (same_row r) others)) out (get_or rows i none ∷ [])) ∙ append_assoc (rows_apart others out) (rows_apart others (get_or rows i none ∷ [])) (rows_apart others (drop (i + 1) rows))
-            ∙ ap (λ ys. rows_apart others out ++ ys) (sym (filter_append (λ r. not (list_any (same_row r) others)) (get_or rows i none ∷ []) (drop (i + 1) rows)))
+            ap (λ ys. ys ++ rows_apart others (drop (i + 1) rows)) (filter-append (λ r. not (list_any (same_row r) others)) out (get_or rows i none ∷ [])) ∙ append_assoc (rows_apart others out) (rows_apart others (get_or rows i none ∷ [])) (rows_apart others (drop (i + 1) rows))
+            ∙ ap (λ ys. rows_apart others out ++ ys) (sym (filter-append (λ r. not (list_any (same_row r) others)) (get_or rows i none ∷ []) (drop (i + 1) rows)))
       ] refl
       ∙ sym (ap (λ ys. rows_apart others out ++ rows_apart others ys) (drop_from rows i none h)) ∙ s.so_far;
 }
@@ -99,7 +74,7 @@ pub set_more : (rows : List Row) (i : ℕ) (none : Row) (old new : BTreeSet RowK
     → ((r : Row) → contains row_cmp new (row_key r) ≡ contains row_cmp old (row_key r) || same_row r (get_or rows i none)) → HasRows new (take (i + 1) rows)
 set_more rows i none old new h has more r =
     more r ∙ ap (λ b. b || same_row r (get_or rows i none)) (has r) ∙ ap (λ b. list_any (same_row r) (take i rows) || b) (alone (same_row r (get_or rows i none)))
-    ∙ sym (any_append (same_row r) (take i rows) (get_or rows i none ∷ [])) ∙ ap (list_any (same_row r)) (sym (take_more rows i none h))
+    ∙ sym (list_any-append (same_row r) (take i rows) (get_or rows i none ∷ [])) ∙ ap (list_any (same_row r)) (sym (take_more rows i none h))
   where
     alone : (b : Bool) → b ≡ b || false
     alone true = refl

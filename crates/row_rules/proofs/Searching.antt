@@ -1,10 +1,5 @@
 -- A search along a list.
-use Rattle.std.proofs.Common.{◌≡◌, ℕ, ◌+◌, ◌<◌, Bool, true, false, List, [], ◌∷◌, ◌++◌, length, get_or, take, drop, refl, ap, sym, ◌∙◌}
-use Rattle.std.specs.Prelude.{◌||◌, find, Some, None, if◌then◌else◌}
-use Rattle.std.specs.List.{list_any}
-use Rattle.std.proofs.lemmas.List.{take-append-drop}
-use Rattle.std.proofs.Math.Seq.{drop-length}
-use Rattle.plan.proofs.Running.{drop_from}
+use Rattle.row_rules.proofs.Words.{◌≡◌, ℕ, ◌+◌, ◌<◌, Bool, true, false, List, length, get_or, take, drop, refl, ap, sym, ◌∙◌, ◌||◌, find, Some, None, if◌then◌else◌, list_any, take-append-drop, drop-length, list_any-append, drop_from}
 
 -- what the search finds is found from i on
 pub record IsSearched {X : Type 0} (test : X → Bool) (xs : List X) (i : ℕ) : Type 0 where
@@ -48,13 +43,8 @@ tested_at test xs i none h e s = sym (ap (λ b. b || list_any test (drop (i + 1)
 pub tested_all : {X : Type 0} (test : X → Bool) (xs : List X) (i : ℕ) → i ≡ length xs → IsTested test xs i → false ≡ list_any test xs
 tested_all test xs i e s = ap (list_any test) (sym (ap (λ n. drop n xs) e ∙ drop-length xs)) ∙ s.rest
 
--- what passes in one of two parts passes in the whole
-any_append : {X : Type 0} (test : X → Bool) (xs ys : List X) → list_any test (xs ++ ys) ≡ list_any test xs || list_any test ys
-any_append test [] ys = refl
-any_append test (x ∷ xs) ys = elim (test x) as (λ b. b || list_any test (xs ++ ys) ≡ (b || list_any test xs) || list_any test ys) [ true ↦ refl | false ↦ any_append test xs ys ]
-
 parts : {X : Type 0} (test : X → Bool) (xs : List X) (i : ℕ) → list_any test (take i xs) || list_any test (drop i xs) ≡ list_any test xs
-parts test xs i = sym (any_append test (take i xs) (drop i xs)) ∙ ap (list_any test) (take-append-drop i xs)
+parts test xs i = sym (list_any-append test (take i xs) (drop i xs)) ∙ ap (list_any test) (take-append-drop i xs)
 
 pub any_behind : {X : Type 0} (test : X → Bool) (xs : List X) (i : ℕ) → list_any test (drop i xs) ≡ true → true ≡ list_any test xs
 any_behind test xs i e = sym (ap (λ b. list_any test (take i xs) || b) e ∙ always (list_any test (take i xs))) ∙ parts test xs i

@@ -1,18 +1,5 @@
 -- What is told of an item by rows that are indexed, and by those of the slice.
-use Rattle.std.proofs.Common.{◌≡◌, ℕ, List}
-use Rattle.std.specs.Prelude.{ℤ}
-use Rattle.plan.specs.declared.Demand.{Demand}
-use Rattle.plan.specs.declared.Supply.{Supply}
-use Rattle.row_rules.specs.Status.{earliest_seen}
-use Rattle.row_rules.specs.Indexed.{demands_told, supplies_told}
-use Rattle.row_rules.specs.Between.{replanned_between}
-use Rattle.row_rules.specs.Replanning.{item_demands, item_supplies, replanned_from}
-use Rattle.row_rules.specs.declared.slice.Rows.{Rows}
-use Rattle.row_rules.specs.declared.plans.DemandRows.{DemandRows}
-use Rattle.row_rules.specs.declared.plans.SupplyRows.{SupplyRows}
-use Rattle.row_rules.specs.declared.indexed.DemandsIndexed.{DemandsIndexed}
-use Rattle.row_rules.specs.declared.indexed.SuppliesIndexed.{SuppliesIndexed}
-use Rattle.row_rules.specs.declared.replanning.IndexedRows.{IndexedRows}
+use Rattle.row_rules.proofs.Words.{◌≡◌, ℕ, List, ℤ, Demand, Supply, earliest_seen, demands_of, supplies_of, demands_told, supplies_told, replanned_between, item_demands, item_supplies, replanned_from, Rows, DemandRows, SupplyRows, DemandsIndexed, SuppliesIndexed, IndexedRows}
 
 -- these are the rows of a slice that tell what is needed of items, and what there is of them
 pub record AreDemandsOf (rows : Rows) (r : DemandRows) : Type 0 where
@@ -42,14 +29,14 @@ pub offered_of : (g : List ℕ) (day : ℤ) (rows : Rows) (r : SupplyRows) → A
 offered_of g day rows r of = λ i. item_supplies g (earliest_seen day (of.least i) g) (of.recalls i) (of.bins i) (of.stock i) (of.lots i)
 
 -- and the same rows indexed
-pub needed_told : (g : List ℕ) (m : DemandsIndexed) (r : DemandRows) → m.rows ≡ r → demands_told g m ≡ needed g r
-needed_told g m r e = λ i. needed g (e i)
+pub needed_told : (g : List ℕ) (m : DemandsIndexed) (r : DemandRows) → m ≡ demands_of r → demands_told g m ≡ needed g r
+needed_told g m r e = λ i. demands_told g (e i)
 
-pub offered_told : (g : List ℕ) (day : ℤ) (m : SuppliesIndexed) (r : SupplyRows) → m.day ≡ day → m.rows ≡ r → supplies_told g m ≡ offered g day r
-offered_told g day m r d e = λ i. offered g (d i) (e i)
+pub offered_told : (g : List ℕ) (day : ℤ) (m : SuppliesIndexed) (r : SupplyRows) → m ≡ supplies_of day r → supplies_told g m ≡ offered g day r
+offered_told g day m r e = λ i. supplies_told g (e i)
 
 -- what changes between indexed rows
-module _ (m n : IndexedRows) (was_day day : ℤ) (old new : DemandRows) (had has : SupplyRows) (m_demands : m.demands.now.rows ≡ old) (m_day : m.supplies.now.day ≡ was_day) (m_supplies : m.supplies.now.rows ≡ had)
-    (n_demands : n.demands.now.rows ≡ new) (n_day : n.supplies.now.day ≡ day) (n_supplies : n.supplies.now.rows ≡ has) where
+module _ (m n : IndexedRows) (was_day day : ℤ) (old new : DemandRows) (had has : SupplyRows) (m_demands : m.demands.now ≡ demands_of old) (m_supplies : m.supplies.now ≡ supplies_of was_day had)
+    (n_demands : n.demands.now ≡ demands_of new) (n_supplies : n.supplies.now ≡ supplies_of day has) where
   pub between_is : (g : List ℕ) → replanned_between m n g ≡ replanned_from g old.orders.now had.lots.now (needed g old) (offered g was_day had) new.orders.now has.lots.now (needed g new) (offered g day has)
-  between_is g = λ i. replanned_from g (m_demands i).orders.now (m_supplies i).lots.now (needed g (m_demands i)) (offered g (m_day i) (m_supplies i)) (n_demands i).orders.now (n_supplies i).lots.now (needed g (n_demands i)) (offered g (n_day i) (n_supplies i))
+  between_is g = λ i. replanned_from g (m_demands i).orders.now (m_supplies i).lots (demands_told g (m_demands i)) (supplies_told g (m_supplies i)) (n_demands i).orders.now (n_supplies i).lots (demands_told g (n_demands i)) (supplies_told g (n_supplies i))

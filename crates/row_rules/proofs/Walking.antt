@@ -1,11 +1,5 @@
 -- Loops that go along a list and make another: what is made so far, with what the rest gives.
-use Rattle.std.proofs.Common.{◌≡◌, ℕ, ◌+◌, ◌<◌, Bool, true, false, List, [], ◌∷◌, ◌++◌, length, get_or, take, drop, refl, ap, sym, ◌∙◌, append_assoc}
-use Rattle.std.specs.Prelude.{if◌then◌else◌, map, filter}
-use Rattle.std.proofs.Math.Seq.{drop-length}
-use Rattle.std.proofs.lemmas.List.{take_more}
-use Rattle.plan.proofs.Running.{drop_from}
-use Rattle.commands.specs.Lists.{placed}
-use Rattle.row_rules.specs.Plans.{inserted}
+use Rattle.row_rules.proofs.Words.{◌≡◌, ℕ, ◌+◌, ◌<◌, Bool, true, false, List, [], ◌∷◌, ◌++◌, length, get_or, take, drop, refl, ap, sym, ◌∙◌, append_assoc, if◌then◌else◌, map, filter, drop-length, take_more, drop_from, placed, inserted}
 
 pub drop_end : {X : Type 0} (xs : List X) (i : ℕ) → i ≡ length xs → drop i xs ≡ []
 drop_end xs i e = ap (λ n. drop n xs) e ∙ drop-length xs
@@ -36,7 +30,7 @@ pub record IsKept {X : Type 0} (test : X → Bool) (xs : List X) (i : ℕ) (out 
 pub kept_none : {X : Type 0} (test : X → Bool) (xs : List X) (out : List X) → out ≡ [] → IsKept test xs 0 out
 kept_none test xs out e = record { so_far = ap (λ ys. ys ++ filter test xs) e }
 
-kept_one : {X : Type 0} (b : Bool) (x : X) (rest out : List X) → (out ++ (if b then x ∷ [] else [])) ++ rest ≡ out ++ (if b then x ∷ rest else rest)
+pub kept_one : {X : Type 0} (b : Bool) (x : X) (rest out : List X) → (out ++ (if b then x ∷ [] else [])) ++ rest ≡ out ++ (if b then x ∷ rest else rest)
 kept_one true x rest out = append_assoc out (x ∷ []) rest
 kept_one false x rest out = ap (λ ys. ys ++ rest) (append_none out)
 

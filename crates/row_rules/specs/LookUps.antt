@@ -1,25 +1,16 @@
 -- What rows that are found by a text or by a number of theirs give.
-use Rattle.std.specs.Prelude.{◌≡◌, ℕ, ◌==◌, Bool, true, false, ◌&&◌, not, if◌then◌else◌, List, [], ◌∷◌, ◌++◌, reverse, map, filter, find, Option, Some, None, Vec}
+use Rattle.std.specs.Prelude.{◌≡◌, ℕ, ◌==◌, Bool, true, false, not, List, [], ◌∷◌, reverse, filter, find, Option, Some, None, Vec}
 use Rattle.std.specs.List.{cons_option}
 use Rattle.std.specs.Option.{option_or}
 use Rattle.std.specs.Ordering.{nat_cmp}
 use Rattle.std.specs.Cmp.Lexicographic.{slice_cmp}
 use Rattle.std.specs.BTreeMap.{get}
 use Rattle.values.specs.Values.{same_text}
-use Rattle.values.specs.declared.lot.LotId.{LotId}
-use Rattle.plan.specs.declared.Demand.{Demand}
 use Rattle.plan.specs.declared.Row.{Row}
-use Rattle.commands.specs.Lists.{total}
-use Rattle.commands.specs.declared.rows.BinRow.{BinRow}
-use Rattle.commands.specs.declared.rows.StockRow.{StockRow}
 use Rattle.commands.specs.declared.rows.OrderRow.{OrderRow}
-use Rattle.commands.specs.declared.rows.UrgentRow.{UrgentRow}
-use Rattle.commands.specs.declared.rows.LineRow.{LineRow}
-use Rattle.commands.specs.declared.rows.StagedRow.{StagedRow}
 use Rattle.commands.specs.declared.rows.LotRow.{LotRow}
 use Rattle.commands.specs.declared.rows.ReservedRow.{ReservedRow}
-use Rattle.machine.specs.Postings.{is_lot}
-use Rattle.row_rules.specs.Plans.{demand_seen, is_earlier, is_urgent_seen, inserted, named_row, is_store_found}
+use Rattle.row_rules.specs.Plans.{named_row}
 use Rattle.row_rules.specs.declared.row_index.RowsByText.{RowsByText}
 use Rattle.row_rules.specs.declared.row_index.RowsByNumber.{RowsByNumber}
 
@@ -52,27 +43,6 @@ GivesFirst number given rows = (n : ℕ) → given n ≡ find (λ r. n == number
 abbrev pub rows_named : (ℕ → Option OrderRow) → (ℕ → Option LotRow) → List Row → List ReservedRow
 rows_named order lot [] = []
 rows_named order lot (r ∷ rs) = cons_option (named_row (order r.booking) (lot r.lot) r.qty) (rows_named order lot rs)
-
--- Demands of orders, whose lines, staged rows and rows as urgent ones are given by their names
-abbrev pub demand_given : List ℕ → (List ℕ → List LineRow) → (List ℕ → List StagedRow) → OrderRow → Demand
-demand_given g lines staged o = demand_seen g (lines o.order) (staged o.order) o
-
-abbrev pub is_urgent_given : (List ℕ → List UrgentRow) → OrderRow → Bool
-is_urgent_given urgents o = is_urgent_seen (urgents o.order) o
-
-abbrev pub is_normal_given : (List ℕ → List UrgentRow) → OrderRow → Bool
-is_normal_given urgents o = not (is_urgent_given urgents o)
-
-abbrev pub demands_given : List ℕ → (List ℕ → List LineRow) → (List ℕ → List StagedRow) → (List ℕ → List UrgentRow) → List OrderRow → List Demand
-demands_given g lines staged urgents orders =
-    inserted is_earlier [] (map (demand_given g lines staged) (filter (is_urgent_given urgents) orders)) ++ inserted is_earlier [] (map (demand_given g lines staged) (filter (is_normal_given urgents) orders))
-
--- What a lot has in STORE bins, which are given by their names
-abbrev pub in_store_given : (List ℕ → List BinRow) → LotId → StockRow → ℕ
-in_store_given bins l r = if is_lot l r.lot && is_store_found (find (λ b. same_text r.bin b.name) (bins r.bin)) then r.qty else 0
-
-abbrev pub store_given : (List ℕ → List BinRow) → List StockRow → LotId → ℕ
-store_given bins stock l = total (in_store_given bins l) stock
 
 -- In order
 

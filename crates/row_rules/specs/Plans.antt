@@ -72,9 +72,13 @@ abbrev pub is_store_found : Option BinRow → Bool
 is_store_found None = false
 is_store_found (Some r) = is_store_kind r.kind
 
+-- the units of a row, if it is of the lot and in a STORE bin
+abbrev pub in_store_seen : List BinRow → LotId → StockRow → ℕ
+in_store_seen bins l r = if is_lot l r.lot && is_store_found (find (λ b. same_text r.bin b.name) bins) then r.qty else 0
+
 -- the units of a lot in STORE bins
 abbrev pub store_seen : List BinRow → List StockRow → LotId → ℕ
-store_seen bins stock l = total (λ r. if is_lot l r.lot && is_store_found (find (λ b. same_text r.bin b.name) bins) then r.qty else 0) stock
+store_seen bins stock l = total (in_store_seen bins l) stock
 
 -- the lot is of the item, and may be shipped on the day
 abbrev pub is_usable : List ℕ → ℤ → List RecallRow → LotRow → Bool

@@ -1,5 +1,5 @@
--- What a decision reads of the units of a lot that are staged or reserved for an order, and the staged rows where these have changed.
-use Rattle.std.specs.Prelude.{ℕ, not, ◌&&◌, ◌==◌, if◌then◌else◌, List, [], ◌∷◌, ◌++◌, filter, find, Option, Some, None}
+-- What a decision reads of the units of a lot that are staged or reserved for an order.
+use Rattle.std.specs.Prelude.{ℕ, ◌&&◌, ◌==◌, if◌then◌else◌, List, [], ◌∷◌, find, Option, Some, None}
 use Rattle.std.specs.List.{cons_option}
 use Rattle.values.specs.Values.{same_text}
 use Rattle.values.specs.declared.lot.LotId.{LotId}
@@ -31,20 +31,6 @@ staged_found rows o l = find (λ r. same_text o r.order && is_lot l r.lot) rows
 -- the units of a lot that are staged for an order
 abbrev pub on_stage_seen : Slice → List ℕ → LotId → ℕ
 on_stage_seen s o l = staged_qty (staged_found s.rows.staged o l)
-
--- Where so many units of a lot are staged for an order after the act: a row of no units is not kept
-
--- the row put
-abbrev pub staged_put : List ℕ → LotId → ℕ → List StagedRow
-staged_put o l q = if q == 0 then [] else record { order = o; lot = l; qty = q } ∷ []
-
--- the row dropped, if there was one
-abbrev pub staged_gone : List StagedRow → List ℕ → LotId → ℕ → List StagedRow
-staged_gone rows o l q = if q == 0 then cons_option (staged_found rows o l) [] else []
-
--- all staged rows
-abbrev pub staged_rows_with : List ℕ → LotId → ℕ → List StagedRow → List StagedRow
-staged_rows_with o l q rows = staged_put o l q ++ filter (λ r. not (same_text o r.order && is_lot l r.lot)) rows
 
 -- Where so many units of a lot stay reserved for an order after the act
 

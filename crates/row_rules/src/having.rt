@@ -300,6 +300,14 @@ impl Has<(Name, Gtin)> for StagedRow {
     }
 }
 
+impl Has<(Gtin, Name)> for StagedRow {
+    ghost of_row = { λ r. (r.lot.gtin, r.order) };
+
+    fn value(&self) -> (Gtin, Name) {
+        (self.lot.gtin, self.order)
+    }
+}
+
 impl Has<(Name, Gtin)> for ReservedRow {
     ghost of_row = { λ r. (r.order, r.lot.gtin) };
 

@@ -3,27 +3,29 @@
 ghost use Rattle.std.specs.Prelude.{◌≡◌, ◌≤◌, IfOk};
 ghost use Rattle.plan.specs.Overlap.{demand_total, supply_total};
 ghost use Rattle.plan.specs.declared.TheConstants.{SUM_MAX};
-ghost use Rattle.row_rules.specs.Indexed.{AreDemandsIndexed, AreSuppliesIndexed, demands_told, supplies_told};
+ghost use Rattle.row_rules.specs.Indexed.{demands_of, supplies_of, demands_told, supplies_told};
 
-use crate::demands::{cut_demands, demands_found};
+use crate::demands::{cut_demands, demands_seen};
 use crate::plans::{DemandRows, SupplyRows};
-use crate::row_index::{RowsByText, by_text};
-use crate::status::earliest;
-use crate::supplies::{cut_supplies, supplies_found};
-use commands::{BinRow, LeastRow, LineRow, LotRow, RecallRow, StagedRow, StockRow, UrgentRow};
+use crate::rows_by_key::{RowsByKey, by_key};
+use crate::status::earliest_of;
+use crate::supplies::{cut_supplies, supplies_seen};
+use commands::{
+    BinRow, LeastRow, LineRow, LotRow, OrderRow, RecallRow, StagedRow, StockRow, UrgentRow,
+};
 use label::BusinessDay;
 use plan::{Demand, Supply};
 use std::alloc::{AllocError, Global};
-use values::{Gtin, Lot, Name};
+use values::{Gtin, LotId, Name};
 
 /// The rows that tell the demands for items: lines, staged rows and those of urgent orders by their
 /// orders.
 #[derive(Drop)]
 pub struct DemandsIndexed<'a> {
-    pub rows: DemandRows<'a>,
-    pub lines: RowsByText<'a, LineRow>,
-    pub staged: RowsByText<'a, StagedRow>,
-    pub urgents: RowsByText<'a, UrgentRow>,
+    pub orders: &'a [OrderRow],
+    pub lines: RowsByKey<'a, (Name, Gtin), LineRow>,
+    pub staged: RowsByKey<'a, (Name, Gtin), StagedRow>,
+    pub urgents: RowsByKey<'a, Name, UrgentRow>,
 }
 
 /// The rows that tell the supplies of items on a day: recalls and stock by their lots, bins by their
@@ -31,12 +33,11 @@ pub struct DemandsIndexed<'a> {
 #[derive(Drop)]
 pub struct SuppliesIndexed<'a> {
     pub day: BusinessDay,
-    pub rows: SupplyRows<'a>,
-    pub recalls: RowsByText<'a, RecallRow>,
-    pub bins: RowsByText<'a, BinRow>,
-    pub stock: RowsByText<'a, StockRow>,
-    pub lots: RowsByText<'a, LotRow>,
-    pub least: RowsByText<'a, LeastRow>,
+    pub recalls: RowsByKey<'a, LotId, RecallRow>,
+    pub bins: RowsByKey<'a, Name, BinRow>,
+    pub stock: RowsByKey<'a, LotId, StockRow>,
+    pub lots: RowsByKey<'a, Gtin, LotRow>,
+    pub least: RowsByKey<'a, Gtin, LeastRow>,
 }
 
 /// The rows of demands indexed, once for as many items.
@@ -45,15 +46,14 @@ pub fn demands_indexed<'a>(
     rows: &DemandRows<'a>,
     items: usize,
 ) -> Result<DemandsIndexed<'a>, AllocError>
-    ensures indexed { IfOk result (λ m. AreDemandsIndexed m) }
-    ensures rows { IfOk result (λ m. m.rows ≡ rows.now) }
+    ensures { IfOk result (λ m. m ≡ demands_of rows.now) }
 {
     let times = rows.orders.len().saturating_mul(items);
-    let lines = by_text::<Name, LineRow>(alloc, rows.lines, times)?;
-    let staged = by_text::<Name, StagedRow>(alloc, rows.staged, times)?;
-    let urgents = by_text::<Name, UrgentRow>(alloc, rows.urgents, times)?;
+    let lines = by_key::<(Name, Gtin), LineRow>(alloc, rows.lines, times)?;
+    let staged = by_key::<(Name, Gtin), StagedRow>(alloc, rows.staged, times)?;
+    let urgents = by_key::<Name, UrgentRow>(alloc, rows.urgents, times)?;
     Ok(DemandsIndexed {
-        rows: *rows,
+        orders: rows.orders,
         lines,
         staged,
         urgents,
@@ -67,19 +67,16 @@ pub fn supplies_indexed<'a>(
     rows: &SupplyRows<'a>,
     items: usize,
 ) -> Result<SuppliesIndexed<'a>, AllocError>
-    ensures indexed { IfOk result (λ m. AreSuppliesIndexed m) }
-    ensures day { IfOk result (λ m. m.day ≡ day) }
-    ensures rows { IfOk result (λ m. m.rows ≡ rows.now) }
+    ensures { IfOk result (λ m. m ≡ supplies_of day rows.now) }
 {
     let times = rows.lots.len().saturating_mul(items);
-    let recalls = by_text::<Lot, RecallRow>(alloc, rows.recalls, times)?;
-    let bins = by_text::<Name, BinRow>(alloc, rows.bins, rows.stock.len())?;
-    let stock = by_text::<Lot, StockRow>(alloc, rows.stock, rows.lots.len())?;
-    let lots = by_text::<Gtin, LotRow>(alloc, rows.lots, items)?;
-    let least = by_text::<Gtin, LeastRow>(alloc, rows.least, items)?;
+    let recalls = by_key::<LotId, RecallRow>(alloc, rows.recalls, times)?;
+    let bins = by_key::<Name, BinRow>(alloc, rows.bins, rows.stock.len())?;
+    let stock = by_key::<LotId, StockRow>(alloc, rows.stock, rows.lots.len())?;
+    let lots = by_key::<Gtin, LotRow>(alloc, rows.lots, items)?;
+    let least = by_key::<Gtin, LeastRow>(alloc, rows.least, items)?;
     Ok(SuppliesIndexed {
         day,
-        rows: *rows,
         recalls,
         bins,
         stock,
@@ -94,17 +91,16 @@ pub fn demands_of_item(
     gtin: &Gtin,
     indexed: &DemandsIndexed<'_>,
 ) -> Result<Vec<Demand>, AllocError>
-    requires { AreDemandsIndexed indexed.now }
     ensures told { IfOk result (λ v. v.items ≡ demands_told gtin.now indexed.now) }
     ensures small { IfOk result (λ v. demand_total v.items ≤ SUM_MAX) }
 {
-    let demands = demands_found(
+    let demands = demands_seen(
         alloc,
         gtin,
         &indexed.lines,
         &indexed.staged,
         &indexed.urgents,
-        indexed.rows.orders,
+        indexed.orders,
     )?;
     cut_demands(alloc, demands.as_slice())
 }
@@ -115,19 +111,18 @@ pub fn supplies_of_item(
     gtin: &Gtin,
     indexed: &SuppliesIndexed<'_>,
 ) -> Result<Vec<Supply>, AllocError>
-    requires { AreSuppliesIndexed indexed.now }
     ensures told { IfOk result (λ v. v.items ≡ supplies_told gtin.now indexed.now) }
     ensures small { IfOk result (λ v. supply_total v.items ≤ SUM_MAX) }
 {
-    let from = earliest(indexed.day, indexed.least.candidates(gtin), gtin);
-    let supplies = supplies_found(
+    let from = earliest_of(indexed.day, indexed.least.find(gtin));
+    let supplies = supplies_seen(
         alloc,
         gtin,
         from,
         &indexed.recalls,
         &indexed.bins,
         &indexed.stock,
-        indexed.lots.candidates(gtin),
+        &indexed.lots,
     )?;
     cut_supplies(alloc, supplies.as_slice())
 }

@@ -8,6 +8,7 @@ ghost use Rattle.row_rules.specs.Replanning.{same_row, rows_apart as rows_apart_
 ghost use Rattle.row_rules.specs.Apart.{row_key, row_cmp, HasRows};
 
 use crate::list_parts::push_if;
+use crate::loops::{Test, failing};
 use plan::Row;
 use std::alloc::{AllocError, Global};
 use std::collections::BTreeSet;
@@ -33,10 +34,44 @@ fn rows_not_found(alloc: Global, others: &[Row], rows: &[Row]) -> Result<Vec<Row
     ensures { IfOk result (λ v. v.items ≡ rows_apart_lem others.now rows.now) }
 {
     if rows.len() <= FEW {
-        return rows_not_among(alloc, others, rows);
+        return failing(alloc, rows, &IsAmong { others });
     }
     let known = row_set(alloc, others)?;
-    rows_not_in(alloc, &known, others, rows)
+    failing(alloc, rows, &IsIn { known })
+}
+
+// That a row is among these.
+#[derive(Clone, Copy)]
+struct IsAmong<'a> {
+    others: &'a [Row],
+}
+
+impl Test<Row> for IsAmong<'_> {
+    ghost use Rattle.std.specs.List.{list_any};
+    ghost use Rattle.row_rules.specs.Replanning.{same_row};
+
+    ghost test = { λ t r. list_any (same_row r) t.others.now };
+
+    fn passes(&self, row: &Row) -> bool {
+        place_of(self.others, row).is_some()
+    }
+}
+
+// That a row is in the set.
+#[derive(Drop)]
+struct IsIn {
+    known: BTreeSet<(u64, u64, u64)>,
+}
+
+impl Test<Row> for IsIn {
+    ghost use Rattle.std.specs.BTreeSet.{contains};
+    ghost use Rattle.row_rules.specs.Apart.{row_key, row_cmp};
+
+    ghost test = { λ t r. contains row_cmp t.known (row_key r) };
+
+    fn passes(&self, row: &Row) -> bool {
+        self.known.contains(&key_of(row))
+    }
 }
 
 // The rows without those that are met as both are walked along.
@@ -83,35 +118,6 @@ fn is_same_row(a: &Row, b: &Row) -> bool
     ensures { result ≡ same_row a.now b.now }
 {
     a.booking == b.booking && a.lot == b.lot && a.qty == b.qty
-}
-
-fn rows_not_among(alloc: Global, others: &[Row], rows: &[Row]) -> Result<Vec<Row>, AllocError>
-    ensures { IfOk result (λ v. v.items ≡ rows_apart_lem others.now rows.now) }
-{
-    let mut apart = Vec::new(alloc);
-    for row in rows {
-        let there = place_of(others, row).is_some();
-        push_if(&mut apart, !there, *row)?;
-    }
-    Ok(apart)
-}
-
-// The same by a set of the others.
-fn rows_not_in(
-    alloc: Global,
-    known: &BTreeSet<(u64, u64, u64)>,
-    others: &[Row],
-    rows: &[Row],
-) -> Result<Vec<Row>, AllocError>
-    requires { HasRows known.now others.now }
-    ensures { IfOk result (λ v. v.items ≡ rows_apart_lem others.now rows.now) }
-{
-    let mut apart = Vec::new(alloc);
-    for row in rows {
-        let there = known.contains(&key_of(row));
-        push_if(&mut apart, !there, *row)?;
-    }
-    Ok(apart)
 }
 
 fn key_of(row: &Row) -> (u64, u64, u64)

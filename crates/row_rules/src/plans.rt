@@ -1,15 +1,14 @@
 //! The plan of an item, and the reserved rows that it changes.
 
-ghost use Rattle.std.specs.Prelude.{◌≡◌, ◌==◌, ◌&&◌, [], ◌∷◌, min, not, filter, find, IfOk};
-ghost use Rattle.std.specs.List.{list_any};
-ghost use Rattle.machine.specs.Postings.{of_item};
-ghost use Rattle.row_rules.specs.Plans.{plan_within, named_row, named_rows as named_rows_lem, is_share_of, has_qty, rows_to_put as rows_to_put_lem, rows_to_drop as rows_to_drop_lem};
-ghost use Rattle.row_rules.specs.LookUps.{rows_given, row_given, rows_named};
+ghost use Rattle.std.specs.Prelude.{◌≡◌, [], ◌∷◌, min, IfOk};
+ghost use Rattle.row_rules.specs.Plans.{plan_within, named_row, named_rows as named_rows_lem, has_qty, rows_to_put as rows_to_put_lem, rows_to_drop as rows_to_drop_lem};
+ghost use Rattle.row_rules.specs.LookUps.{row_given, rows_named};
 
 use crate::Rows;
-use crate::list_parts::{push_found, push_if};
-use crate::row_index::{RowsByNumber, RowsByText, by_number, by_text};
-use crate::row_search::{find_row, has_row};
+use crate::list_parts::push_found;
+use crate::loops::{Test, failing, passing};
+use crate::row_index::{RowsByNumber, by_number};
+use crate::rows_by_key::{RowsByKey, by_key};
 use crate::supplies::cut_supplies;
 use commands::{
     BinRow, LeastRow, LineRow, LotRow, OrderRow, RecallRow, ReservedRow, StagedRow, StockRow,
@@ -17,7 +16,7 @@ use commands::{
 };
 use plan::{Demand, Plan, Row, SUM_MAX, Supply, whole};
 use std::alloc::{AllocError, Global};
-use values::{Gtin, Name};
+use values::{Gtin, LotId, Name};
 
 /// The rows that tell the demands for an item.
 #[derive(Clone, Copy)]
@@ -156,26 +155,25 @@ pub fn rows_to_put(
 ) -> Result<Vec<ReservedRow>, AllocError>
     ensures { IfOk result (λ v. v.items ≡ rows_to_put_lem olds.now news.now) }
 {
-    let by_order = by_text::<Name, ReservedRow>(alloc, olds, news.len())?;
-    rows_unlike(alloc, &by_order, news)
+    let by_share = by_key::<(Name, LotId), ReservedRow>(alloc, olds, news.len())?;
+    failing(alloc, news, &IsThere { olds: by_share })
 }
 
-fn rows_unlike(
-    alloc: Global,
-    olds: &RowsByText<'_, ReservedRow>,
-    news: &[ReservedRow],
-) -> Result<Vec<ReservedRow>, AllocError>
-    ensures { IfOk result (λ v. v.items ≡ filter (λ n. not (has_qty (find (is_share_of n) (rows_given olds.now n.order)) n.qty)) news.now) }
-{
-    let mut put = Vec::new(alloc);
-    for row in news {
-        let same = is_qty(
-            find_row(olds.candidates(&row.order), &(row.order, row.lot)),
-            row.qty,
-        );
-        push_if(&mut put, !same, *row)?;
+// That a row is there as it is.
+#[derive(Drop)]
+struct IsThere<'a> {
+    olds: RowsByKey<'a, (Name, LotId), ReservedRow>,
+}
+
+impl Test<ReservedRow> for IsThere<'_> {
+    ghost use Rattle.std.specs.Prelude.{find};
+    ghost use Rattle.row_rules.specs.Plans.{has_qty, is_share_of};
+
+    ghost test = { λ t n. has_qty (find (is_share_of n) t.olds) n.qty };
+
+    fn passes(&self, row: &ReservedRow) -> bool {
+        is_qty(self.olds.find(&(row.order, row.lot)), row.qty)
     }
-    Ok(put)
 }
 
 /// The old rows of an item that are there no more.
@@ -187,33 +185,34 @@ pub fn rows_to_drop(
 ) -> Result<Vec<ReservedRow>, AllocError>
     ensures { IfOk result (λ v. v.items ≡ rows_to_drop_lem gtin.now olds.now news.now) }
 {
-    let by_order = by_text::<Name, ReservedRow>(alloc, news, olds.len())?;
-    rows_gone(alloc, gtin, olds, &by_order)
+    let by_share = by_key::<(Name, LotId), ReservedRow>(alloc, news, olds.len())?;
+    let gone = IsGone {
+        gtin: *gtin,
+        news: by_share,
+    };
+    passing(alloc, olds, &gone)
 }
 
-fn rows_gone(
-    alloc: Global,
-    gtin: &Gtin,
-    olds: &[ReservedRow],
-    news: &RowsByText<'_, ReservedRow>,
-) -> Result<Vec<ReservedRow>, AllocError>
-    ensures { IfOk result (λ v. v.items ≡ filter (λ r. of_item gtin.now r.lot && not (list_any (is_share_of r) (rows_given news.now r.order))) olds.now) }
-{
-    let mut dropped = Vec::new(alloc);
-    for row in olds {
-        let gone = is_gone(gtin, news.candidates(&row.order), row);
-        push_if(&mut dropped, gone, *row)?;
+// That a row is of the item and there no more.
+#[derive(Drop)]
+struct IsGone<'a> {
+    gtin: Gtin,
+    news: RowsByKey<'a, (Name, LotId), ReservedRow>,
+}
+
+impl Test<ReservedRow> for IsGone<'_> {
+    ghost use Rattle.std.specs.Prelude.{◌&&◌, not};
+    ghost use Rattle.std.specs.List.{list_any};
+    ghost use Rattle.machine.specs.Postings.{of_item};
+    ghost use Rattle.row_rules.specs.Plans.{is_share_of};
+
+    ghost test = { λ t r. of_item t.gtin r.lot && not (list_any (is_share_of r) t.news) };
+
+    fn passes(&self, row: &ReservedRow) -> bool {
+        let own = self.gtin == row.lot.gtin;
+        let stays = self.news.has(&(row.order, row.lot));
+        own && !stays
     }
-    Ok(dropped)
-}
-
-// Whether the row is of the item and there no more.
-fn is_gone(gtin: &Gtin, news: &[ReservedRow], row: &ReservedRow) -> bool
-    ensures { result ≡ of_item gtin.now row.now.lot && not (list_any (is_share_of row.now) news.now) }
-{
-    let own = *gtin == row.lot.gtin;
-    let stays = has_row(news, &(row.order, row.lot));
-    own && !stays
 }
 
 fn is_qty(row: Option<ReservedRow>, qty: u64) -> bool

@@ -7,7 +7,7 @@ ghost use Rattle.plan.specs.Changes.{cut_of};
 ghost use Rattle.plan.specs.Limits.{AreSmall};
 ghost use Rattle.plan.specs.Overlap.{demand_total, supply_total};
 ghost use Rattle.plan.specs.declared.TheConstants.{SUM_MAX};
-ghost use Rattle.row_rules.specs.Between.{IsIndexed, replanned_between};
+ghost use Rattle.row_rules.specs.Between.{replanned_between};
 ghost use Rattle.row_rules.specs.Replanning.{first_as_one as first_as_one_lem, rows_behind, shares_apart as shares_apart_lem, shares_changed as shares_changed_lem, item_demands, item_supplies, replanned_rows, replanned_from, item_replanned};
 ghost use Rattle.row_rules.specs.Status.{earliest_seen};
 
@@ -98,8 +98,6 @@ fn replan_each(
     before: &IndexedRows<'_, '_>,
     after: &IndexedRows<'_, '_>,
 ) -> Result<Replanned, AllocError>
-    requires before { IsIndexed before.now }
-    requires after { IsIndexed after.now }
     ensures put { IfOk result (λ r. r.put ≡ flat_map (λ g. (replanned_between before.now after.now g).put) gtins.now) }
     ensures dropped { IfOk result (λ r. r.dropped ≡ flat_map (λ g. (replanned_between before.now after.now g).dropped) gtins.now) }
 {
@@ -123,8 +121,6 @@ fn replan_between(
     before: &IndexedRows<'_, '_>,
     after: &IndexedRows<'_, '_>,
 ) -> Result<Replanned, AllocError>
-    requires before { IsIndexed before.now }
-    requires after { IsIndexed after.now }
     ensures { IfOk result (λ r. r ≡ replanned_between before.now after.now gtin.now) }
 {
     let (needed, had) = (before.demands, before.supplies);
@@ -134,14 +130,14 @@ fn replan_between(
     let wants = demands_of_item(alloc, gtin, needs)?;
     let offers = supplies_of_item(alloc, gtin, has)?;
     let was = Told {
-        orders: needed.rows.orders,
-        lots: had.rows.lots,
+        orders: needed.orders,
+        lots: had.lots.all(),
         demands: wanted.as_slice(),
         supplies: offered.as_slice(),
     };
     let will = Told {
-        orders: needs.rows.orders,
-        lots: has.rows.lots,
+        orders: needs.orders,
+        lots: has.lots.all(),
         demands: wants.as_slice(),
         supplies: offers.as_slice(),
     };

@@ -10,28 +10,34 @@ ghost use Rattle.values.specs.Values.{same_text};
 ghost use Rattle.row_rules.specs.LookUps.{rows_or, rows_kept, rows_given, row_given, GivesRows, GivesFirst};
 
 use crate::having::Has;
+use crate::same::Same;
 use commands::{LotRow, OrderRow};
 use std::alloc::{AllocError, Global};
 use std::collections::BTreeMap;
-use values::{Gtin, Lot, Name, TextKey};
+use values::{Gtin, Lot, LotId, Name, TextKey};
 
 /// Up to so many rows, or look-ups, a walk over the rows is as good as a map of them.
 const FEW: usize = 32;
 
 // By a text
 
-/// A value that has a text.
-pub trait HasText: Copy {
-    ghost use Rattle.std.specs.Prelude.{ℕ, List, reverse};
+/// A value that has a text, and which no other has where the texts differ.
+pub trait HasText: Same {
+    ghost use Rattle.std.specs.Prelude.{◌≡◌, ℕ, true, List, reverse};
+    ghost use Rattle.values.specs.Values.{same_text};
 
     ghost text: { Self → List ℕ };
 
     fn key(&self) -> TextKey
         ensures { result ≡ reverse (text self.now) };
+
+    ghost told: { (a b : Self) → Self.same a b ≡ true → same_text (text a) (text b) ≡ true };
 }
 
 impl HasText for Gtin {
     ghost text = { λ g. g };
+
+    ghost told = { λ a b e. e };
 
     fn key(&self) -> TextKey {
         TextKey::of_gtin(self)
@@ -41,6 +47,8 @@ impl HasText for Gtin {
 impl HasText for Lot {
     ghost text = { λ l. l };
 
+    ghost told = { λ a b e. e };
+
     fn key(&self) -> TextKey {
         TextKey::of_lot(self)
     }
@@ -49,8 +57,36 @@ impl HasText for Lot {
 impl HasText for Name {
     ghost text = { λ n. n };
 
+    ghost told = { λ a b e. e };
+
     fn key(&self) -> TextKey {
         TextKey::of_name(self)
+    }
+}
+
+// The lot's own number, which tells more of them apart than the item.
+impl HasText for LotId {
+    ghost use Rattle.values.specs.Values.{same_text};
+    ghost use Rattle.machine.proofs.Tests.{and_both};
+
+    ghost text = { λ l. l.lot };
+
+    ghost told = { λ a b e. (and_both (same_text a.gtin b.gtin) (same_text a.lot b.lot) e).1 };
+
+    fn key(&self) -> TextKey {
+        self.lot.key()
+    }
+}
+
+impl<A: HasText, B: Same> HasText for (A, B) {
+    ghost use Rattle.machine.proofs.Tests.{and_both};
+
+    ghost text = { λ p. A.text p.0 };
+
+    ghost told = { λ a b e. A.told a.0 b.0 (and_both (A.same a.0 b.0) (B.same a.1 b.1) e).0 };
+
+    fn key(&self) -> TextKey {
+        self.0.key()
     }
 }
 

@@ -7,6 +7,7 @@ ghost use Rattle.row_rules.specs.Seen.{capped};
 
 use crate::having::{Has, HasUnits};
 use crate::list_parts::push_if;
+use crate::loops::{Test, failing, passing};
 use crate::same::Same;
 use std::alloc::{AllocError, Global};
 
@@ -42,12 +43,7 @@ pub fn rows_with<K: Same, R: Has<K>>(
 ) -> Result<Vec<R>, AllocError>
     ensures { IfOk result (λ v. v.items ≡ filter (λ r. K.same value.now (R.of_row r)) rows.now) }
 {
-    let mut own = Vec::new(alloc);
-    for row in rows {
-        let same = value.is_same(&row.value());
-        push_if(&mut own, same, *row)?;
-    }
-    Ok(own)
+    passing(alloc, rows, &HasValue { value })
 }
 
 /// The rows that do not have the value.
@@ -58,12 +54,21 @@ pub fn rows_without<K: Same, R: Has<K>>(
 ) -> Result<Vec<R>, AllocError>
     ensures { IfOk result (λ v. v.items ≡ filter (λ r. not (K.same value.now (R.of_row r))) rows.now) }
 {
-    let mut others = Vec::new(alloc);
-    for row in rows {
-        let same = value.is_same(&row.value());
-        push_if(&mut others, !same, *row)?;
+    failing(alloc, rows, &HasValue { value })
+}
+
+// That a row has the value.
+#[derive(Clone, Copy)]
+struct HasValue<'a, K> {
+    value: &'a K,
+}
+
+impl<K: Same, R: Has<K>> Test<R> for HasValue<'_, K> {
+    ghost test = { λ t r. K.same t.value.now (R.of_row r) };
+
+    fn passes(&self, row: &R) -> bool {
+        self.value.is_same(&row.value())
     }
-    Ok(others)
 }
 
 /// The rows that do not have what one of the others has.

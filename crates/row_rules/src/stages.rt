@@ -1,9 +1,9 @@
-//! The units of a lot that are staged or reserved for an order, and the staged rows where these have changed.
+//! The units of a lot that are staged or reserved for an order.
 
 ghost use Rattle.std.specs.Prelude.{◌≡◌, IfOk};
-ghost use Rattle.row_rules.specs.SeenStages.{reserved_qty as reserved_qty_lem, reserved_found as reserved_found_lem, reserved_put as reserved_put_lem, staged_qty as staged_qty_lem, staged_found as staged_found_lem, staged_put as staged_put_lem, staged_rows_with as staged_rows_with_lem};
+ghost use Rattle.row_rules.specs.SeenStages.{reserved_qty as reserved_qty_lem, reserved_found as reserved_found_lem, reserved_put as reserved_put_lem, staged_qty as staged_qty_lem, staged_found as staged_found_lem};
 
-use crate::row_search::{find_row, rows_without};
+use crate::row_search::find_row;
 use commands::{ReservedRow, StagedRow};
 use std::alloc::{AllocError, Global};
 use values::{LotId, Name};
@@ -60,40 +60,4 @@ pub fn staged_qty(row: Option<StagedRow>) -> u64
         None => 0,
         Some(r) => r.qty,
     }
-}
-
-/// The staged row that is put where so many units of a lot are staged for an order.
-pub fn staged_put(
-    alloc: Global,
-    order: &Name,
-    lot: &LotId,
-    qty: u64,
-) -> Result<Vec<StagedRow>, AllocError>
-    ensures { IfOk result (λ v. v.items ≡ staged_put_lem order.now lot.now qty) }
-{
-    let mut put = Vec::new(alloc);
-    if qty != 0 {
-        put.push(StagedRow {
-            order: *order,
-            lot: *lot,
-            qty,
-        })?;
-    }
-    Ok(put)
-}
-
-/// The staged rows, where so many units of a lot are staged for an order.
-pub fn staged_rows_with(
-    alloc: Global,
-    rows: &[StagedRow],
-    order: &Name,
-    lot: &LotId,
-    qty: u64,
-) -> Result<Vec<StagedRow>, AllocError>
-    ensures { IfOk result (λ v. v.items ≡ staged_rows_with_lem order.now lot.now qty rows.now) }
-{
-    let mut after = staged_put(alloc, order, lot, qty)?;
-    let others = rows_without(alloc, rows, &(*order, *lot))?;
-    after.extend_from_slice(others.as_slice())?;
-    Ok(after)
 }

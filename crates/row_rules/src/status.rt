@@ -1,6 +1,6 @@
 //! How a lot stands on a business day, and whether it may be shipped.
 
-ghost use Rattle.std.specs.Prelude.{◌≡◌, ◌≤◌, pos, ◌+ℤ◌};
+ghost use Rattle.std.specs.Prelude.{◌≡◌, ◌≤◌, not, ◌&&◌, pos, ◌+ℤ◌};
 ghost use Rattle.values.specs.Values.{LEAST_DAYS_MAX};
 ghost use Rattle.machine.specs.Standing.{is_expired as is_expired_lem, is_short_dated as is_short_dated_lem};
 ghost use Rattle.row_rules.specs.Status.{status_seen, may_ship as may_ship_lem, is_past_row, is_below_row, days_in, least_seen, earliest_seen};
@@ -51,7 +51,14 @@ fn days_of(row: Option<LeastRow>) -> u16
 pub fn earliest(day: BusinessDay, rows: &[LeastRow], gtin: &Gtin) -> Day
     ensures { result ≡ earliest_seen day rows.now gtin.now }
 {
-    later(day, least_days(rows, gtin))
+    earliest_of(day, find_row(rows, gtin))
+}
+
+/// The same where this is the row of the item.
+pub fn earliest_of(day: BusinessDay, row: Option<LeastRow>) -> Day
+    ensures { result ≡ day +ℤ pos (days_in row) }
+{
+    later(day, days_of(row))
 }
 
 // The day so many days later. That of the last business day is a day still.
@@ -67,7 +74,13 @@ fn later(day: BusinessDay, days: u16) -> Day
 pub fn may_ship(earliest: Day, recalls: &[RecallRow], lot: &LotRow) -> bool
     ensures { result ≡ may_ship_lem earliest recalls.now lot.now }
 {
-    let recalled = has_row(recalls, &lot.lot);
+    is_shippable(earliest, has_row(recalls, &lot.lot), lot)
+}
+
+/// The same where it is known whether the lot is recalled.
+pub fn is_shippable(earliest: Day, recalled: bool, lot: &LotRow) -> bool
+    ensures { result ≡ not recalled && not lot.now.held && not (is_expired_lem earliest lot.now.expiry) }
+{
     let early = is_expired(earliest, lot.expiry);
     !recalled && !lot.held && !early
 }

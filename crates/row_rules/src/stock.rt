@@ -2,10 +2,9 @@
 
 ghost use Rattle.std.specs.Prelude.{◌≡◌, IfOk};
 ghost use Rattle.row_rules.specs.Seen.{stock_qty};
-ghost use Rattle.row_rules.specs.SeenLots.{sees_lot as sees_lot_lem, stock_found as stock_found_lem, in_bin_seen, stock_put as stock_put_lem, stock_gone as stock_gone_lem, stock_rows_with as stock_rows_with_lem};
+ghost use Rattle.row_rules.specs.SeenLots.{sees_lot as sees_lot_lem, stock_found as stock_found_lem, in_bin_seen, stock_put as stock_put_lem, stock_rows_with as stock_rows_with_lem};
 
 use crate::Slice;
-use crate::list_parts::row_gone;
 use crate::row_search::{find_row, rows_without};
 use commands::StockRow;
 use std::alloc::{AllocError, Global};
@@ -60,19 +59,6 @@ pub fn stock_put(
         })?;
     }
     Ok(put)
-}
-
-/// The stock row that is dropped where a lot has so many units in a bin.
-pub fn stock_gone(
-    alloc: Global,
-    rows: &[StockRow],
-    lot: &LotId,
-    bin: &Name,
-    qty: u64,
-) -> Result<Vec<StockRow>, AllocError>
-    ensures { IfOk result (λ v. v.items ≡ stock_gone_lem rows.now lot.now bin.now qty) }
-{
-    row_gone(alloc, find_row(rows, &(*lot, *bin)), qty)
 }
 
 /// The stock rows, where a lot has so many units in a bin.

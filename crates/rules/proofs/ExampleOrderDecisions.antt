@@ -1,15 +1,6 @@
 -- Orders decided by the rows of a slice.
-use Rattle.std.specs.Prelude.{◌≡◌, ℕ, false, List, [], ◌∷◌, codes, refl, Some, None}
 use Rattle.std.specs.Fmt.{digits}
-use Rattle.commands.specs.declared.command.BinKind.TheVariants.{Store}
-use Rattle.commands.specs.declared.command.NewOrder.{NewOrder}
-use Rattle.commands.specs.declared.refusal.Refusal.TheVariants.{UnknownItem, OrderExists, ItemTwice, OverOrdered}
-use Rattle.commands.specs.declared.rows.OrderState.TheVariants.{Open}
-use Rattle.machine.specs.Verdict.{first_refusal}
-use Rattle.order_rules.specs.DecidedOrder.{order_seen, order_changes}
-use Rattle.order_rules.specs.Booked.{open_units_seen}
-use Rattle.row_rules.specs.declared.slice.Slice.{Slice}
-use Rattle.machine.proofs.examples.ExampleHistories.{may_4, may_31, june_30, OATS, RYE, A1, S1, S2, L1, L2}
+use Rattle.rules.proofs.Words.{◌≡◌, ℕ, false, List, [], ◌∷◌, codes, refl, Some, None, Store, NewOrder, UnknownItem, OrderExists, ItemTwice, OverOrdered, Open, first_refusal, order_seen, order_changes, open_units_seen, Slice, may_4, may_31, june_30, OATS, RYE, A1, S1, S2, L1, L2}
 
 abbrev before_orders : Slice
 before_orders = record {

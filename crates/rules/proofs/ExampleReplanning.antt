@@ -1,20 +1,6 @@
 -- Items planned anew by the rows of a slice, in which no reserved rows are.
-use Rattle.std.specs.Prelude.{◌≡◌, ℕ, ℤ, false, List, [], ◌∷◌, codes, refl}
 use Rattle.std.specs.Fmt.{digits}
-use Rattle.values.specs.declared.lot.LotId.{LotId}
-use Rattle.commands.specs.declared.command.BinKind.TheVariants.{Store}
-use Rattle.commands.specs.declared.command.NewOrder.{NewOrder}
-use Rattle.commands.specs.declared.key.Key.TheVariants.{Line}
-use Rattle.commands.specs.declared.rows.OrderState.TheVariants.{Open}
-use Rattle.goods_rules.specs.DecidedReceive.{receive_changes}
-use Rattle.order_rules.specs.DecidedCancel.{cancel_changes}
-use Rattle.order_rules.specs.DecidedOrder.{order_changes}
-use Rattle.order_rules.specs.DecidedUrgent.{urgent_changes}
-use Rattle.lot_rules.specs.DecidedHold.{hold_changes}
-use Rattle.lot_rules.specs.DecidedLeast.{least_changes}
-use Rattle.row_rules.specs.declared.slice.Slice.{Slice}
-use Rattle.row_rules.specs.declared.slice.Change.{Change}
-use Rattle.machine.proofs.examples.ExampleHistories.{may_4, may_10, may_31, june_30, july_31, OATS, A1, S1, S2, L0, L1, L2, lot_of}
+use Rattle.rules.proofs.Words.{◌≡◌, ℕ, ℤ, false, List, [], ◌∷◌, codes, refl, LotId, Store, NewOrder, Line, Open, receive_changes, cancel_changes, order_changes, urgent_changes, hold_changes, least_changes, Slice, Change, may_4, may_10, may_31, june_30, july_31, OATS, A1, S1, S2, L0, L1, L2, lot_of}
 
 -- The first order has 10 units of L2, which expires first, and 2 of L1; the second has 8 of L1, and is short of 4.
 abbrev two_orders : Slice

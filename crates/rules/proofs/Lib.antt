@@ -1,3 +1,6 @@
+mod Words
+pub mod OneRow
+pub mod PlanKept
 pub mod rows
 pub mod decided
 mod OlderLimits

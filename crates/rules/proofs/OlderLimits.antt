@@ -1,20 +1,5 @@
 -- Larger limits refuse no more, and those of today are the machine's.
-use Rattle.std.proofs.Common.{◌≡◌, ℕ, ◌+◌, ◌≤◌, Bool, true, false, List, [], ◌∷◌, refl, ap, sym, ◌∙◌, arith}
-use Rattle.std.specs.Prelude.{◌||◌, nat_lt, nat_le, if◌then◌else◌, length, map, Some, None, ℤ}
-use Rattle.std.specs.List.{list_any}
-use Rattle.std.proofs.lemmas.Bool.Decides.{nat_tests}
-use Rattle.commands.specs.declared.limits.TheConstants.{ACTS_MAX}
-use Rattle.commands.specs.declared.command.OrderLine.{OrderLine}
-use Rattle.commands.specs.declared.refusal.Refusal.{Refusal}
-use Rattle.commands.specs.declared.refusal.Refusal.TheVariants.{ActsFull}
-use Rattle.commands.specs.declared.command.Command.{Command}
-use Rattle.commands.specs.declared.command.Command.TheVariants.{Item, Bin, Receive, Move, Count, Adjust, Order, Cancel, Pick, Unpick, Ship, Hold, Release, Recall, OpenDay, Least, Urgent}
-use Rattle.machine.specs.Acts.{Act}
-use Rattle.machine.specs.Planning.{in_bin, units_in_house, open_units}
-use Rattle.machine.specs.Verdict.{Judgement, first_refusal, judgement, taken_off, put_on}
-use Rattle.machine.specs.Once.{IsHistory}
-use Rattle.machine.proofs.Tests.{or_none}
-use Rattle.rules.specs.OlderLimits.{Limits, older_limits, newest_limits, AreWithin, is_over_units, is_over_ordered, limited, lines_ordered, exceeds_units, exceeds_wanted, judgement_under, verdict_under, IsHistoryUnder, TodayIsNewest, LimitsMayGrow, OlderHistoriesGoOn}
+use Rattle.rules.proofs.Words.{◌≡◌, ℕ, ◌+◌, ◌≤◌, Bool, true, false, List, [], ◌∷◌, refl, ap, sym, ◌∙◌, arith, ◌||◌, nat_lt, nat_le, if◌then◌else◌, length, map, Some, None, ℤ, list_any, nat_tests, ACTS_MAX, OrderLine, Refusal, ActsFull, Command, Item, Bin, Receive, Move, Count, Adjust, Order, Cancel, Pick, Unpick, Ship, Hold, Release, Recall, OpenDay, Least, Urgent, Act, in_bin, units_in_house, open_units, Judgement, first_refusal, judgement, taken_off, put_on, IsHistory, or_none, Limits, older_limits, newest_limits, AreWithin, is_over_units, is_over_ordered, limited, lines_ordered, exceeds_units, exceeds_wanted, judgement_under, verdict_under, IsHistoryUnder, TodayIsNewest, LimitsMayGrow, OlderHistoriesGoOn}
 
 -- One condition in front
 

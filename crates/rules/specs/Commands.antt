@@ -1,25 +1,18 @@
 -- What is judged of a command, and what it changes, by its slice.
-use Rattle.std.specs.Prelude.{nat_le, ◌∷◌}
-use Rattle.commands.specs.declared.limits.TheConstants.{ACTS_MAX}
-use Rattle.commands.specs.declared.key.Key.{Key}
-use Rattle.commands.specs.declared.refusal.Refusal.TheVariants.{ActsFull}
-use Rattle.commands.specs.declared.command.Command.{Command}
-use Rattle.commands.specs.declared.command.Command.TheVariants.{Item, Bin, Receive, Move, Count, Adjust, Order, Cancel, Pick, Unpick, Ship, Hold, Release, Recall, OpenDay, Least, Urgent}
-use Rattle.machine.specs.Verdict.{Judgement}
-use Rattle.row_rules.specs.declared.slice.Slice.{Slice}
-use Rattle.row_rules.specs.declared.slice.Change.{Change}
-use Rattle.goods_rules.specs.DecidedSetup.{item_seen, item_changes, bin_seen, bin_changes}
-use Rattle.goods_rules.specs.DecidedReceive.{receive_seen, receive_changes}
-use Rattle.goods_rules.specs.DecidedMove.{move_seen, move_changes}
-use Rattle.goods_rules.specs.DecidedCount.{count_seen, count_changes, adjust_seen, adjust_changes}
-use Rattle.order_rules.specs.DecidedOrder.{order_seen, order_changes}
-use Rattle.order_rules.specs.DecidedCancel.{cancel_seen, cancel_changes}
-use Rattle.order_rules.specs.DecidedPick.{pick_seen, pick_changes, unpick_seen, unpick_changes}
-use Rattle.order_rules.specs.DecidedShip.{ship_seen, ship_changes}
-use Rattle.order_rules.specs.DecidedUrgent.{urgent_changes}
-use Rattle.lot_rules.specs.DecidedHold.{hold_seen, hold_changes, release_seen, release_changes, recall_seen, recall_changes}
-use Rattle.lot_rules.specs.DecidedDay.{day_judged, day_changes}
-use Rattle.lot_rules.specs.DecidedLeast.{least_judged, least_changes}
+use Rattle.std.specs.Prelude.{◌∷◌}
+use Rattle.rules.specs.Words.{nat_le, ACTS_MAX, Key, ActsFull, Command, Item, Bin, Receive, Move, Count, Adjust, Order, Cancel, Pick, Unpick, Ship, Hold, Release, Recall, OpenDay, Least, Urgent, Judgement, Slice, Change}
+use Rattle.rules.specs.DecidedSetup.{item_seen, item_changes, bin_seen, bin_changes}
+use Rattle.rules.specs.DecidedReceive.{receive_seen, receive_changes}
+use Rattle.rules.specs.DecidedMove.{move_seen, move_changes}
+use Rattle.rules.specs.DecidedCount.{count_seen, count_changes, adjust_seen, adjust_changes}
+use Rattle.rules.specs.DecidedOrder.{order_seen, order_changes}
+use Rattle.rules.specs.DecidedCancel.{cancel_seen, cancel_changes}
+use Rattle.rules.specs.DecidedPick.{pick_seen, pick_changes, unpick_seen, unpick_changes}
+use Rattle.rules.specs.DecidedShip.{ship_seen, ship_changes}
+use Rattle.rules.specs.DecidedUrgent.{urgent_changes}
+use Rattle.rules.specs.DecidedHold.{hold_seen, hold_changes, release_seen, release_changes, recall_seen, recall_changes}
+use Rattle.rules.specs.DecidedDay.{day_judged, day_changes}
+use Rattle.rules.specs.DecidedLeast.{least_judged, least_changes}
 
 abbrev pub command_seen : Slice → Command → Judgement
 command_seen s (Item i) = item_seen s i

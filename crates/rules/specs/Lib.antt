@@ -1,3 +1,23 @@
+mod Words
+pub mod Shelf
+pub mod Told
+pub mod PostedChanges
+pub mod DecidedCount
+pub mod DecidedMove
+pub mod DecidedReceive
+pub mod DecidedSetup
+pub mod ItemTold
+pub mod Booked
+pub mod DecidedCancel
+pub mod DecidedOrder
+pub mod DecidedPick
+pub mod DecidedShip
+pub mod DecidedUrgent
+pub mod DecidedHold
+pub mod Expiring
+pub mod DecidedDay
+pub mod DecidedLeast
+pub mod KeptPlan
 pub mod Slices
 pub mod Made
 pub mod Commands

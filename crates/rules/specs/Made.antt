@@ -1,9 +1,6 @@
 -- What comes of a decision: a refusal, or a change.
-use Rattle.std.specs.Prelude.{◌≡◌, Option, Some, None, Result, Ok, Err}
-use Rattle.commands.specs.declared.refusal.Refusal.{Refusal}
-use Rattle.row_rules.specs.declared.slice.Change.{Change}
-use Rattle.row_rules.specs.declared.slice.RuleFault.{RuleFault}
-use Rattle.row_rules.specs.declared.slice.RuleFault.TheVariants.{Refused, NoMemory}
+use Rattle.std.specs.Prelude.{◌≡◌}
+use Rattle.rules.specs.Words.{Option, Some, None, Result, Ok, Err, Refusal, Change, RuleFault, Refused, NoMemory}
 
 -- a refusal is told; otherwise the change is made, but for want of memory
 abbrev pub IsMade : Option Refusal → Change → Result Change RuleFault → Type 0

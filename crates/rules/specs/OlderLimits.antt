@@ -1,17 +1,6 @@
 -- What programs of older schemas accepted: the rules of today under smaller limits.
-use Rattle.std.specs.Prelude.{◌≡◌, ℕ, ◌+◌, ◌≤◌, Bool, true, false, nat_lt, nat_le, if◌then◌else◌, List, [], ◌∷◌, length, map, Option, None, ℤ, IsTrue}
-use Rattle.std.specs.List.{list_any}
-use Rattle.label.specs.Days.{is_business_day}
-use Rattle.commands.specs.declared.limits.TheConstants.{ORDER_LINES_MAX, UNITS_MAX, OPEN_MAX, ACTS_MAX}
-use Rattle.commands.specs.declared.refusal.Refusal.{Refusal}
-use Rattle.commands.specs.declared.refusal.Refusal.TheVariants.{ActsFull, OverUnits, OverOrdered}
-use Rattle.commands.specs.declared.command.NewOrder.{NewOrder}
-use Rattle.commands.specs.declared.command.Command.{Command}
-use Rattle.commands.specs.declared.command.Command.TheVariants.{Receive, Count, Adjust, Order, Urgent}
-use Rattle.machine.specs.Acts.{Act}
-use Rattle.machine.specs.Planning.{in_bin, units_in_house, open_units}
-use Rattle.machine.specs.Verdict.{Judgement, first_refusal, judgement, verdict, taken_off, put_on}
-use Rattle.machine.specs.Once.{IsSoundRequest, IsHistory, bearer}
+use Rattle.std.specs.Prelude.{◌≡◌, ◌+◌, ◌≤◌, if◌then◌else◌, ◌∷◌}
+use Rattle.rules.specs.Words.{ℕ, Bool, true, false, nat_lt, nat_le, List, [], length, map, Option, None, ℤ, IsTrue, list_any, is_business_day, ORDER_LINES_MAX, UNITS_MAX, OPEN_MAX, ACTS_MAX, Refusal, ActsFull, OverUnits, OverOrdered, NewOrder, Command, Receive, Count, Adjust, Order, Urgent, Act, in_bin, units_in_house, open_units, Judgement, first_refusal, judgement, verdict, taken_off, put_on, IsSoundRequest, IsHistory, bearer}
 
 -- the limits that have grown: the lines of an order, an item's units in the house, and those that open orders want of it
 pub record Limits : Type 0 where

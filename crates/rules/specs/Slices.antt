@@ -1,31 +1,7 @@
 -- What a decision sees of the tables, and what a change makes of them.
-use Rattle.std.specs.Prelude.{◌≡◌, ℕ, Bool, true, false, not, ◌&&◌, ◌||◌, ◌==◌, nat_le, if◌then◌else◌, List, [], ◌∷◌, length, find, Option, Some, None, option_map, Result, Ok, Err, is_some, ℤ}
-use Rattle.std.specs.List.{list_any}
-use Rattle.values.specs.Values.{same_text}
-use Rattle.values.specs.declared.lot.LotId.{LotId}
-use Rattle.commands.specs.declared.command.Command.{Command}
-use Rattle.commands.specs.declared.names.Added.{Added}
+use Rattle.std.specs.Prelude.{◌≡◌, ◌&&◌, ◌||◌, ◌==◌, if◌then◌else◌, ◌∷◌}
+use Rattle.rules.specs.Words.{ℕ, Bool, true, false, not, nat_le, List, [], length, find, Option, Some, None, option_map, Result, Ok, Err, is_some, ℤ, list_any, same_text, LotId, Command, Added, NamedOrder, OrderStep, names_of, is_picked, is_shipped, ITEMS_MAX, BINS_MAX, ReservedRow, no_two, AreRows, same_cell, same_line, same_share, Act, is_lot, items, bins, lines_of, is_open, is_touched, Tables, tables_of, repeat_row, verdict, reply, Put, Rows, Slice, Change, RuleFault, Refused, NoMemory, Foreign}
 use Rattle.commands.specs.declared.names.Added.TheVariants.{Item, Bin}
-use Rattle.commands.specs.declared.names.NamedOrder.{NamedOrder}
-use Rattle.commands.specs.declared.names.OrderStep.{OrderStep}
-use Rattle.commands.specs.Names.{names_of, is_picked, is_shipped}
-use Rattle.commands.specs.declared.limits.TheConstants.{ITEMS_MAX, BINS_MAX}
-use Rattle.commands.specs.declared.rows.ReservedRow.{ReservedRow}
-use Rattle.machine.specs.KeyedRows.{no_two, AreRows, same_cell, same_line, same_share}
-use Rattle.machine.specs.Acts.{Act}
-use Rattle.machine.specs.Postings.{is_lot}
-use Rattle.machine.specs.Standing.{items, bins, lines_of}
-use Rattle.machine.specs.Planning.{is_open}
-use Rattle.machine.specs.Touched.{is_touched}
-use Rattle.machine.specs.Tables.{Tables, tables_of, repeat_row}
-use Rattle.machine.specs.Verdict.{verdict}
-use Rattle.machine.specs.Replies.{reply}
-use Rattle.row_rules.specs.declared.slice.Put.{Put}
-use Rattle.row_rules.specs.declared.slice.Rows.{Rows}
-use Rattle.row_rules.specs.declared.slice.Slice.{Slice}
-use Rattle.row_rules.specs.declared.slice.Change.{Change}
-use Rattle.row_rules.specs.declared.slice.RuleFault.{RuleFault}
-use Rattle.row_rules.specs.declared.slice.RuleFault.TheVariants.{Refused, NoMemory, Foreign}
 
 -- Changes: a row that is put stands, one that is dropped or on a stage that is emptied is gone, and the others stay
 

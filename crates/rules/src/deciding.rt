@@ -9,22 +9,17 @@ ghost use Rattle.machine.specs.Verdict.{first_refusal};
 ghost use Rattle.rules.specs.Made.{IsMade};
 ghost use Rattle.rules.specs.Commands.{command_seen, all_seen, command_changes};
 
-use crate::{Change, RuleFault, Slice};
+use crate::{
+    Change, RuleFault, Slice, change_adjust, change_bin, change_cancel, change_count, change_day,
+    change_hold, change_item, change_least, change_move, change_order, change_pick, change_recall,
+    change_receive, change_release, change_ship, change_unpick, change_urgent, judge_adjust,
+    judge_bin, judge_cancel, judge_count, judge_day, judge_hold, judge_item, judge_least,
+    judge_move, judge_order, judge_pick, judge_recall, judge_receive, judge_release, judge_ship,
+    judge_unpick,
+};
 use commands::laws::{every_command_is_sound, every_key_is_sound};
 use commands::limits::ACTS_MAX;
 use commands::{Command, Key, Refusal};
-use goods_rules::{
-    change_adjust, change_bin, change_count, change_item, change_move, change_receive,
-    judge_adjust, judge_bin, judge_count, judge_item, judge_move, judge_receive,
-};
-use lot_rules::{
-    change_day, change_hold, change_least, change_recall, change_release, judge_day, judge_hold,
-    judge_least, judge_recall, judge_release,
-};
-use order_rules::{
-    change_cancel, change_order, change_pick, change_ship, change_unpick, change_urgent,
-    judge_cancel, judge_order, judge_pick, judge_ship, judge_unpick,
-};
 use std::alloc::{AllocError, Global};
 
 /// Judges a command by the rows that it touches, and says what it changes.

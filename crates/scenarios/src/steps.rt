@@ -3,7 +3,7 @@
 use crate::exchanges::ask;
 use crate::lines::{line, note, run_over, text_of, words};
 use crate::place::{At, Beside, End, closed_at, end_of};
-use crate::tables::{executes, has_rows, sql};
+use crate::row_steps::{executes, has_rows, sql};
 use crate::told::Told;
 use book_trials::Came;
 use books_schema::ready_connection::{Leftover, Orderly};

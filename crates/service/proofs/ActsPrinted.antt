@@ -1,16 +1,6 @@
 -- The acts that were printed to a writer that was lent.
-use Rattle.std.proofs.Common.{◌≡◌, ℕ, List, [], Option, Result, Ok, Err, inl, inr}
-use Rattle.std.specs.Prelude.{◌⊎◌, ℤ}
-use Rattle.std.specs.Io.KnownBytes.{Appends}
-use Rattle.machine.specs.Acts.{Act}
-use Rattle.texts.specs.Writing.{AppendsBeginning}
-use Rattle.histories.specs.Text.{history_text}
-use Rattle.histories.specs.Start.{IsStart}
-use Rattle.histories.specs.Printed.{IsHistoryPrinted}
-use Rattle.histories.specs.declared.fault.HistoryFault.{HistoryFault}
+use Rattle.service.proofs.Words.{◌≡◌, ℕ, List, [], Option, Result, Ok, Err, inl, inr, ◌⊎◌, ℤ, Appends, Act, AppendsBeginning, history_text, IsStart, IsHistoryPrinted, HistoryFault, fault_told, behind}
 use Rattle.histories.specs.declared.fault.HistoryFault.TheVariants as history
-use Rattle.service.specs.ActsTold.{fault_told}
-use Rattle.service.specs.Lending.{behind}
 use Rattle.service.proofs.Lending.{appended, begun}
 
 pub acts_back : (first : ℤ) (acts : List Act) (name other : ℕ) (out back last : Option (List ℕ)) → (name ≡ other → last ≡ back) → (end : Result Unit HistoryFault)

@@ -1,8 +1,5 @@
 -- What a writer that was lent holds once it is back. `same`: the reference that came back, if it is the one that was lent, leaves what it holds.
-use Rattle.std.proofs.Common.{◌≡◌, ℕ, List, ◌++◌, Option, Some, None, sym, subst}
-use Rattle.std.specs.Io.KnownBytes.{Appends}
-use Rattle.texts.specs.Writing.{AppendsBeginning}
-use Rattle.service.specs.Lending.{behind}
+use Rattle.service.proofs.Words.{◌≡◌, ℕ, List, ◌++◌, Option, Some, None, sym, subst, Appends, AppendsBeginning, behind}
 
 module _ (name other : ℕ) (back last : Option (List ℕ)) (same : name ≡ other → last ≡ back) where
   appended_to : (was back : Option (List ℕ)) (text : List ℕ) → (name ≡ other → last ≡ back) → Appends (behind name was) (behind other back) text → Appends was last text

@@ -1,3 +1,5 @@
+mod Words
+pub mod Failing
 pub mod Serving
 pub mod Importing
 pub mod Lending

@@ -1,24 +1,8 @@
 -- What is left of books of which a text was printed, and what a writer that was lent for it holds.
-use Rattle.std.proofs.Common.{◌≡◌, List, [], Ok, Err, Result, Option, ℕ}
-use Rattle.std.specs.Prelude.{ℤ}
-use Rattle.sqlite_trees.specs.declared.store.Store.{Ghosts}
-use Rattle.values.specs.declared.lot.LotId.{LotId}
-use Rattle.commands.specs.declared.refusal.Refusal.{Refusal}
-use Rattle.machine.specs.Acts.{Act}
-use Rattle.machine.specs.Queries.{card_shown, notice_shown}
-use Rattle.texts.specs.Card.{card_text}
-use Rattle.texts.specs.Notice.{notice_text}
-use Rattle.store.specs.Connected.{Connected}
-use Rattle.store.specs.Books.{HoldsBooks}
+use Rattle.service.proofs.Words.{◌≡◌, List, [], Ok, Err, Result, Option, ℕ, ℤ, Ghosts, LotId, Refusal, Act, card_shown, notice_shown, card_text, notice_text, Connected, HoldsBooks, EachFault, Stopped, Fault as LineFault, shown_text, behind, IsPrinted, IsSheetPrinted, told_as, Sheet, Card, Notice}
 use Rattle.store.specs.declared.fault.Fault.TheVariants.{Refused, Store, Foreign}
-use Rattle.store.specs.declared.each_fault.EachFault.{EachFault}
-use Rattle.store.specs.declared.each_fault.EachFault.TheVariants.{Fault, Stopped}
-use Rattle.command_line.specs.declared.fault.Fault.{Fault as LineFault}
-use Rattle.house.specs.LotTexts.{Tells, shown_text}
-use Rattle.service.specs.Lending.{behind}
-use Rattle.service.specs.Printing.{IsPrinted, IsSheetPrinted, told_as}
-use Rattle.service.specs.declared.books_lines.Sheet.{Sheet}
-use Rattle.service.specs.declared.books_lines.Sheet.TheVariants.{Card, Notice}
+use Rattle.store.specs.declared.each_fault.EachFault.TheVariants.{Fault}
+use Rattle.house.specs.LotTexts.{Tells}
 use Rattle.service.proofs.Lending.{appended, begun}
 
 module _ {S V : Type 0} (g : Ghosts S) (first : ℤ) (acts : List Act) (text : V → List ℕ) (shown : Result V Refusal) (was books : Connected S) where

@@ -1,46 +1,7 @@
 -- Books that go on by steps.
-use Rattle.std.proofs.Common.{◌≡◌, ◌≢◌, ◌≤◌, true, Bool, ℕ, ◌+◌, List, [], ◌∷◌, ◌++◌, length-append, append-nil, append_assoc, ◌∙◌, refl, ap, subst, sym, inl, inr, Ok, Err, arith, rules}
-use Rattle.std.specs.Prelude.{ℤ, Option, Result, OnErr, zip}
-use Rattle.sqlite_trees.specs.declared.store.Store.{Ghosts}
-use Rattle.sqlite.specs.Held.{Held, state}
-use Rattle.machine.specs.Acts.{Act}
-use Rattle.machine.specs.Once.{IsHistory}
-use Rattle.texts.specs.Writing.{AppendsBeginning}
-use Rattle.texts.specs.declared.fault.TextFault.{TextFault}
-use Rattle.store.specs.Connected.{Connected}
-use Rattle.store.specs.Books.{HoldsBooks}
-use Rattle.house.specs.House.{Step, Run, LeavesBooks}
-use Rattle.house.specs.Keeping.{KeepsOn}
-use Rattle.house.specs.Serving.{HasLine, IsLogged, IsServedAndLogged}
-use Rattle.house.specs.declared.keeping.KeepFault.{KeepFault}
-use Rattle.house.proofs.Running.{one_more, run_none, told_more}
-use Rattle.house.proofs.Stepping.{leaves_more}
-use Rattle.wire.specs.Logging.{log_line}
-use Rattle.wire.specs.declared.serving.ServeFault.{ServeFault}
-use Rattle.wire.specs.declared.serving.ServeFault.TheVariants.{Read, Write}
-use Rattle.service.specs.Serving.{AreLogged, HasLines, HasLogged, KeepsLogged}
-use Rattle.service.specs.Kept.{AreKept, GoesOnKept, HasKept, IsKeptTo, end_after}
+use Rattle.service.proofs.Words.{◌≡◌, ◌≢◌, ◌≤◌, true, Bool, ℕ, ◌+◌, List, [], ◌∷◌, ◌++◌, length-append, append-nil, append_assoc, ◌∙◌, refl, ap, subst, sym, inl, inr, Ok, Err, arith, rules, ℤ, Option, Result, OnErr, IfErr, zip, Ghosts, Held, state, Act, IsHistory, Appends, AppendsBeginning, Writes, TextFault, Connected, HoldsBooks, LeavesOnly, Fault, Io, Step, Run, LeavesBooks, KeepsOn, HasLine, IsLogged, IsServedAndLogged, KeepFault, one_more, told_more, leaves_more, leaves_none, log_line, ServeFault, Read, Write, AreLogged, HasLines, HasLogged, KeepsLogged, sent_by, AreKept, GoesOnKept, HasKept, IsKeptTo, IsPortServed, KeepsServed, MayEnd, MayStop, end_after, end_of, sent_till, sent_to, Log, Unkept}
+use Rattle.house.specs.declared.keeping.KeepFault.TheVariants as keep
 use Rattle.service.specs.declared.serve.Stopped.{Stopped}
-use Rattle.service.specs.declared.serve.Stopped.TheVariants.{Log, Unkept}
-
-module _ {E : Type 0} where
-  -- nothing was served, and nothing logged
-  none_are_logged : (end : Result Unit E) (log : Option (List ℕ)) → AreLogged end log log [] []
-  none_are_logged (Ok done) log = refl
-  none_are_logged (Err fault) log = inl (refl, refl)
-
-  -- before the first text
-  pub none_logged : {S : Type 0} (g : Ghosts S) (first : ℤ) (acts : List Act) (n : ℕ) (books : Connected S) (asked : Bool) (end : Result Unit E) (log : Option (List ℕ))
-      → IsHistory first acts → HoldsBooks g first acts books → HasLogged g first acts n books books asked end log log
-  none_logged g first acts n books asked end log history holds = (
-    record {
-      texts = [];
-      answers = [];
-      few = omega arith;
-      runs = run_none g first acts books history holds;
-    },
-    λ it. none_are_logged end log,
-  )
 
 -- a whole line is a beginning of it, and none too
 line_begun : (old new : Option (List ℕ)) (text bytes : List ℕ) → HasLine old new text bytes → AppendsBeginning old new (log_line text bytes)
@@ -66,8 +27,8 @@ more_lines old mid new [] (b ∷ answers) text bytes was h = absurd was
 more_lines old mid new (t ∷ texts) [] text bytes was h = absurd was
 
 -- one line more, or a beginning of it
-more_logged : {E : Type 0} (end : Result Unit E) (old mid new : Option (List ℕ)) (texts answers : List (List ℕ)) (text bytes : List ℕ) → HasLines old mid texts answers
-    → IsLogged end mid new text bytes → AreLogged end old new (texts ++ text ∷ []) (answers ++ bytes ∷ [])
+more_logged : (end : Result Unit Stopped) (old mid new : Option (List ℕ)) (texts answers : List (List ℕ)) (text bytes : List ℕ) → HasLines old mid texts answers
+    → IsLogged end mid new text (sent_to end bytes) → AreLogged sent_till end old new (texts ++ text ∷ []) (answers ++ bytes ∷ [])
 more_logged (Ok done) old mid new texts answers text bytes was h = more_lines old mid new texts answers text bytes was h
 more_logged (Err fault) old mid new texts answers text bytes was h = inr (
     record {
@@ -83,10 +44,10 @@ more_logged (Err fault) old mid new texts answers text bytes was h = inr (
     }
     )
 
-module _ {S K : Type 0} (g : Ghosts S) (keeps begins : K → ℤ → List Act → Type 0) (first : ℤ) (acts : List Act) where
+module _ {S K : Type 0} (g : Ghosts S) (keeps : K → ℤ → List Act → Type 0) (leaves : K → ℤ → List Act → List Act → Type 0) (first : ℤ) (acts : List Act) where
   -- before the first text
   pub none_kept : (n : ℕ) (books : Connected S) (asked : Bool) (log : Option (List ℕ)) (keeper : K) → IsHistory first acts → HoldsBooks g first acts books
-      → HasKept g keeps begins first acts n books books asked (Ok tt) log log keeper keeper
+      → HasKept g keeps leaves first acts n books books asked (Ok tt) log log keeper keeper
   none_kept n books asked log keeper history holds = (
     (
       record {
@@ -108,7 +69,7 @@ module _ {S K : Type 0} (g : Ghosts S) (keeps begins : K → ℤ → List Act �
 
   -- and where nobody is served at all
   pub none_stopped : (n : ℕ) (books : Connected S) (asked : Bool) (log : Option (List ℕ)) (keeper : K) → IsHistory first acts → HoldsBooks g first acts books
-      → HasKept g keeps begins first acts n books books asked (Err Log) log log keeper keeper
+      → HasKept g keeps leaves first acts n books books asked (Err Log) log log keeper keeper
   none_stopped n books asked log keeper history holds = (
     (
       record {
@@ -131,7 +92,7 @@ module _ {S K : Type 0} (g : Ghosts S) (keeps begins : K → ℤ → List Act �
   module _ (n : ℕ) (was mid new : Connected S) (end : Result Unit Stopped) (old between last : Option (List ℕ)) (before then after : K) where
     -- one step more
     kept_on : (e : Result Unit Stopped) (begun : ℤ) (texts answers : List (List ℕ)) (text bytes : List ℕ) (so_far all : List Act) → Run first acts texts answers so_far → Step first so_far text bytes all
-        → IsKeptTo g keeps begins first so_far e begun all after → AreKept g keeps begins first acts e begun (texts ++ text ∷ []) (answers ++ bytes ∷ []) all after
+        → IsKeptTo g keeps leaves first so_far e begun all after → AreKept g keeps leaves first acts e begun (texts ++ text ∷ []) (answers ++ bytes ∷ []) all after
     kept_on (Ok done) begun texts answers text bytes so_far all run step kept = kept
     kept_on (Err Log) begun texts answers text bytes so_far all run step kept = kept
     kept_on (Err (Unkept fault)) begun texts answers text bytes so_far all run step kept = record {
@@ -148,12 +109,12 @@ module _ {S K : Type 0} (g : Ghosts S) (keeps begins : K → ℤ → List Act �
     }
 
     -- none
-    still : (e : Result Unit Stopped) (begun : ℤ) (texts answers : List (List ℕ)) (all : List Act) → e ≡ Ok tt → after ≡ then → keeps then begun all → AreKept g keeps begins first acts e begun texts answers all after
+    still : (e : Result Unit Stopped) (begun : ℤ) (texts answers : List (List ℕ)) (all : List Act) → e ≡ Ok tt → after ≡ then → keeps then begun all → AreKept g keeps leaves first acts e begun texts answers all after
     still e begun texts answers all whole same kept =
-        subst (λ x. AreKept g keeps begins first acts x begun texts answers all after) (sym whole) (subst (λ k. keeps k begun all) (sym same) kept)
+        subst (λ x. AreKept g keeps leaves first acts x begun texts answers all after) (sym whole) (subst (λ k. keeps k begun all) (sym same) kept)
 
-    on_by : (r : HasKept g keeps begins first acts n was mid true (Ok tt) old between before then) → GoesOnKept g keeps begins first r.0.0.runs.after mid new end between last then after
-        → HasKept g keeps begins first acts (n + 1) was new true end old last before after
+    on_by : (r : HasKept g keeps leaves first acts n was mid true (Ok tt) old between before then) → GoesOnKept g keeps leaves first r.0.0.runs.after mid new end between last then after
+        → HasKept g keeps leaves first acts (n + 1) was new true end old last before after
     on_by r (inl same) = (
       (
         record {
@@ -168,7 +129,7 @@ module _ {S K : Type 0} (g : Ghosts S) (keeps begins : K → ℤ → List Act �
             kept = λ told leaves. subst (λ b. LeavesBooks first r.0.0.runs.after (told ++ zip r.0.0.texts r.0.0.answers) (state g b.conn)) (sym same.0) (r.0.0.runs.kept told leaves);
           };
         },
-        λ asked. subst (λ e. AreLogged e old last r.0.0.texts r.0.0.answers) (sym same.2) (subst (λ o. HasLines old o r.0.0.texts r.0.0.answers) (sym same.1) (r.0.1 asked)),
+        λ asked. subst (λ e. AreLogged sent_till e old last r.0.0.texts r.0.0.answers) (sym same.2) (subst (λ o. HasLines old o r.0.0.texts r.0.0.answers) (sym same.1) (r.0.1 asked)),
       ),
       λ begun kept. still end begun r.0.0.texts r.0.0.answers r.0.0.runs.after same.2 same.3 (r.1 begun kept),
     )
@@ -197,14 +158,14 @@ module _ {S K : Type 0} (g : Ghosts S) (keeps begins : K → ℤ → List Act �
         )
 
     -- one connection more
-    pub one_served : HasKept g keeps begins first acts n was mid true (Ok tt) old between before then
-        → ((a : List Act) → IsHistory first a → HoldsBooks g first a mid → GoesOnKept g keeps begins first a mid new end between last then after)
-        → HasKept g keeps begins first acts (n + 1) was new true end old last before after
+    pub one_served : HasKept g keeps leaves first acts n was mid true (Ok tt) old between before then
+        → ((a : List Act) → IsHistory first a → HoldsBooks g first a mid → GoesOnKept g keeps leaves first a mid new end between last then after)
+        → HasKept g keeps leaves first acts (n + 1) was new true end old last before after
     one_served r f = on_by r (f r.0.0.runs.after r.0.0.runs.history r.0.0.runs.holds)
 
   -- a run over fewer texts is one over as many at most
   pub at_most : (n max : ℕ) (was books : Connected S) (asked : Bool) (end : Result Unit Stopped) (old new : Option (List ℕ)) (before after : K) → n ≤ max
-      → HasKept g keeps begins first acts n was books asked end old new before after → HasKept g keeps begins first acts max was books asked end old new before after
+      → HasKept g keeps leaves first acts n was books asked end old new before after → HasKept g keeps leaves first acts max was books asked end old new before after
   at_most n max was books asked end old new before after less r = (
     (
       record {
@@ -223,37 +184,84 @@ module _ {S K : Type 0} (g : Ghosts S) (keeps begins : K → ℤ → List Act �
 
   module _ (was books : Connected S) (old new : Option (List ℕ)) (before after : K) where
     -- what was read and done is one step, which is kept or not
-    pub goes_on : (kept : Result Unit KeepFault) (logged : Result Unit TextFault) (from to : Option (List ℕ)) (W : List ℕ → Type 0) (s : IsServedAndLogged g first acts from to was books W logged old new)
-        → KeepsOn keeps before after acts s.0.steps.after kept → OnErr kept ((begun : ℤ) (all : List Act) → keeps before begun all → begins after begun all)
-        → GoesOnKept g keeps begins first acts was books (end_after kept logged) old new before after
-    goes_on (Ok done) (Ok line) from to W s on off = inr (s.0.text, s.0.bytes, s.0.steps, s.1, on)
-    goes_on (Ok done) (Err cut) from to W s on off = inr (s.0.text, s.0.bytes, s.0.steps, s.1, on)
-    goes_on (Err fault) (Ok line) from to W s on off = inr (s.0.text, s.0.bytes, s.0.steps, line_begun old new s.0.text s.0.bytes s.1, λ begun kept. off begun acts kept)
-    goes_on (Err fault) (Err cut) from to W s on off = inr (s.0.text, s.0.bytes, s.0.steps, s.1, λ begun kept. off begun acts kept)
+    pub goes_on : (kept : Result Unit KeepFault) (logged : Result Unit TextFault) (from to : Option (List ℕ)) (W : List ℕ → Type 0) (s : IsServedAndLogged g first acts from to was books W kept logged old new)
+        → KeepsOn keeps leaves before after acts s.0.steps.after kept
+        → GoesOnKept g keeps leaves first acts was books (end_after kept logged) old new before after
+    goes_on (Ok done) (Ok line) from to W s on = inr (s.0.text, s.0.bytes, s.0.steps, s.1, λ begun kept. (on begun kept).0)
+    goes_on (Ok done) (Err cut) from to W s on = inr (s.0.text, s.0.bytes, s.0.steps, s.1, λ begun kept. (on begun kept).0)
+    goes_on (Err fault) (Ok line) from to W s on = inr (s.0.text, s.0.bytes, s.0.steps, line_begun old new s.0.text [] s.1, λ begun kept. (on begun kept).1)
+    goes_on (Err fault) (Err cut) from to W s on = inr (s.0.text, s.0.bytes, s.0.steps, s.1, λ begun kept. (on begun kept).1)
 
     -- nothing was read
     pub stays : (kept : Result Unit KeepFault) (logged : Result Unit TextFault) → books ≡ was → new ≡ old → after ≡ before → logged ≡ Ok tt → kept ≡ Ok tt
-        → GoesOnKept g keeps begins first acts was books (end_after kept logged) old new before after
+        → GoesOnKept g keeps leaves first acts was books (end_after kept logged) old new before after
     stays kept logged same quiet still whole all = inl (same, quiet, and_so kept logged all whole, still)
 
-module _ {S E : Type 0} (g : Ghosts S) (first : ℤ) (acts : List Act) where
-  -- a connection that a house was closed over
-  pub keeps_logged : (max : ℕ) (was books : Connected S) (conn : Held S) → conn ≡ books.conn → LeavesBooks first acts [] (state g was.conn)
-      → (asked : Bool) (end : Result Unit E) (old new : Option (List ℕ)) → HasLogged g first acts max was books asked end old new → KeepsLogged g first acts max conn asked end old new
-  keeps_logged max was books conn at leaves asked end old new r =
-      subst (λ c. KeepsLogged g first acts max c asked end old new) (sym at) (
-        record {
-          texts = r.0.texts;
-          answers = r.0.answers;
-          after = r.0.runs.after;
-          few = r.0.few;
-          run = r.0.runs.run;
-          history = r.0.runs.history;
-          keeps = r.0.runs.holds.keeps;
-          kept = r.0.runs.kept [] leaves;
-        },
-        r.1,
+  -- the books were closed
+  pub keeps_served : (max : ℕ) (was books : Connected S) (conn : Held S) → conn ≡ books.conn → LeavesOnly first acts (state g was.conn) → (asked : Bool) (end : Result Unit Fault) (old new : Option (List ℕ)) (before after : K)
+      → IsPortServed g keeps leaves first acts max was books asked end old new before after → KeepsServed g keeps leaves first acts max conn asked end old new before after
+  keeps_served max was books conn at only asked end old new before after served =
+      let r = served.2.0.0 in
+      subst (λ c. KeepsServed g keeps leaves first acts max c asked end old new before after) (sym at) (
+      record {
+        stopped = served.0;
+        told = served.1;
+        run = (
+          record {
+            texts = r.texts;
+            answers = r.answers;
+            after = r.runs.after;
+            few = r.few;
+            run = r.runs.run;
+            history = r.runs.history;
+            keeps = r.runs.holds.keeps;
+            kept = r.runs.kept [] (leaves_none first acts (state g was.conn) only);
+          },
+          served.2.0.1,
+        );
+        kept = served.2.1;
+      }
       )
+
+-- the log, as the line ends
+pub logged_as : {S : Type 0} (g : Ghosts S) (first : ℤ) (acts : List Act) (max : ℕ) (conn : Held S) (asked : Bool) (stopped : Result Unit Stopped) (end : Result Unit Fault) (old new : Option (List ℕ)) → end ≡ end_of stopped
+    → KeepsLogged g first acts max conn asked sent_till stopped old new → KeepsLogged g first acts max conn asked sent_by end old new
+logged_as g first acts max conn asked stopped end old new told r = subst (λ e. KeepsLogged g first acts max conn asked sent_by e old new) (sym told) (r.0, λ is. so stopped (r.1 is))
+  where
+    so : (e : Result Unit Stopped) → AreLogged sent_till e old new r.0.texts r.0.answers → AreLogged sent_by (end_of e) old new r.0.texts r.0.answers
+    so (Ok done) h = h
+    so (Err Log) h = h
+    so (Err (Unkept keep.Place)) h = h
+    so (Err (Unkept keep.Store)) h = h
+
+-- of what ends serving, a keeper that failed may have failed
+pub may_stop : {E : Type 0} (may_fail : Type 0) (kept : Result Unit KeepFault) (logged : Result Unit E) → OnErr kept may_fail → IfErr (end_after kept logged) (λ e. MayStop may_fail e)
+may_stop may_fail (Ok done) (Ok line) fails = tt
+may_stop may_fail (Ok done) (Err cut) fails = tt
+may_stop may_fail (Err fault) logged fails = fails
+
+-- and so it is told
+pub may_end : (may_fail : Type 0) (stopped : Result Unit Stopped) → IfErr stopped (λ e. MayStop may_fail e) → IfErr (end_of stopped) (MayEnd may_fail)
+may_end may_fail (Ok done) may = tt
+may_end may_fail (Err Log) may = inl refl
+may_end may_fail (Err (Unkept fault)) may = inr may
+
+-- where nothing can fail to be kept, it is told that the output or the log takes no more
+pub io_alone : (end : Result Unit Fault) → IfErr end (MayEnd ⊥) → IfErr end (λ fault. fault ≡ Io)
+io_alone (Ok done) may = tt
+io_alone (Err fault) (inl is) = is
+io_alone (Err fault) (inr never) = absurd never
+
+-- what was told whole is told as the line ends, however that is
+pub told_then : {X E : Type 0} (old new : Option (List ℕ)) (text : List ℕ) (r : Result X E) → Appends old new text → Writes r old new text
+told_then old new text (Ok x) told = told
+told_then old new text (Err e) told = record { front = text; rest = []; parts = sym (append-nil text); written = told }
+
+-- where nothing can fail to be kept, serving ended because of the log
+pub log_alone : {S : Type 0} (g : Ghosts S) (first : ℤ) (acts : List Act) (max : ℕ) (was books : Connected S) (asked : Bool) (stopped : Stopped) (old new : Option (List ℕ)) → MayStop ⊥ stopped
+    → HasLogged g first acts max was books asked sent_till (Err stopped) old new → HasLogged g first acts max was books asked sent_till (Err Log) old new
+log_alone g first acts max was books asked Log old new may r = r
+log_alone g first acts max was books asked (Unkept why) old new may r = absurd may
 
 -- a reader that failed, or not
 pub read_or_not : {X : Type 0} (r : Result Unit ServeFault) → (r ≢ Err Read → X) → (r ≡ Err Read → X) → X

@@ -1,4 +1,4 @@
--- What importing a goods-in file does to the books, and what it tells.
+-- What importing a goods-in file does to the books, what is kept of it in a second place, and what it tells.
 use Rattle.std.specs.Prelude.{◌≡◌, ◌≢◌, ◌⊎◌, ℕ, ◌++◌, List, codes, decimal, Option, IfSome, Result, Ok, Err, ℤ, IsTrue}
 use Rattle.std.specs.Io.KnownBytes.{Appends}
 use Rattle.sqlite_trees.specs.declared.store.Store.{Ghosts}
@@ -21,6 +21,8 @@ use Rattle.store.specs.declared.tally.RowFault.{RowFault}
 use Rattle.store.specs.declared.tally.RowFault.TheVariants.{Refused, Store as StoreRow, Foreign as ForeignRow}
 use Rattle.command_line.specs.declared.fault.Fault.{Fault}
 use Rattle.command_line.specs.declared.fault.Fault.TheVariants.{Usage, Label, File, Row, Refused as RefusedText, Audit, Apply, Acts, Value, Io, Store, Foreign}
+use Rattle.house.specs.declared.keeping.KeepFault.{KeepFault}
+use Rattle.service.specs.Kept.{fault_of_keep}
 
 -- what is printed
 abbrev pub tally_line : ℕ → ℕ → List ℕ
@@ -37,11 +39,6 @@ pub record HasRows (first : ℤ) (acts : List Act) (rows : List Act) (s : State)
 abbrev pub KeepsFile : {S : Type 0} → Ghosts S → ℤ → List Act → Held S → Type 0
 KeepsFile g first acts conn = ((rows : List Act) × HasRows first acts rows (state g conn)) ⊎ KeepsBooks first acts (state g conn)
 
--- whatever a stop leaves has the acts, or those after some file
-abbrev pub LeavesFile : ℤ → List Act → State → Type 0
-LeavesFile first acts s = (trees : Trees) → s.may_leave trees
-    → AreBooks first acts trees ⊎ ((rows : List (Key × Command)) × IsHistory first (acts_after_file first acts (rows_of rows)) × AreBooks first (acts_after_file first acts (rows_of rows)) trees)
-
 -- how the rows of a file went, as the line tells it
 abbrev pub IsToldOfFile : Result Tally RowFault → Result Tally Fault → Type 0
 IsToldOfFile (Ok tally) told = told ≡ Ok tally
@@ -49,20 +46,45 @@ IsToldOfFile (Err (Refused row why)) told = told ≡ Err (Row row why)
 IsToldOfFile (Err StoreRow) told = told ≡ Err Store
 IsToldOfFile (Err ForeignRow) told = told ≡ Err Foreign
 
+-- the tally was printed, or the output could not be written
+abbrev pub IsTallyTold : Tally → Result Unit Fault → (old new : Option (List ℕ)) → Type 0
+IsTallyTold tally (Ok done) old new = Appends old new (tally_line tally.accepted tally.repeated)
+IsTallyTold tally (Err fault) old new = fault ≡ Io
+
+-- All acts are kept, and then the tally is told. Or they could not be kept, and nothing is printed: a stop leaves those before, some of
+-- those after and part of what was being added.
+abbrev pub IsTallyEnd : (Keeps Leaves may_fail : Type 0) → Tally → Result Unit Fault → (old new : Option (List ℕ)) → Type 0
+IsTallyEnd Keeps Leaves may_fail tally end old new =
+    (Keeps × IsTallyTold tally end old new) ⊎ (Leaves × may_fail × ((fault : KeepFault) × (end ≡ Err (fault_of_keep fault))) × (new ≡ old))
+
 module _ {S : Type 0} (g : Ghosts S) (first : ℤ) (acts : List Act) (from : Option (List ℕ)) where
   -- the bytes of the file, where they are known, read as these rows at the business day
   abbrev pub AreRead : List (Key × Command) → Type 0
   AreRead rows = IfSome from (λ text. file_read (today first acts) text ≡ Ok rows)
 
+  -- whatever a stop leaves has the acts, or those after the rows of this file
+  abbrev pub LeavesFile : State → Type 0
+  LeavesFile s = (trees : Trees) → s.may_leave trees
+      → AreBooks first acts trees ⊎ ((rows : List (Key × Command)) × AreRead rows × IsHistory first (acts_after_file first acts (rows_of rows)) × AreBooks first (acts_after_file first acts (rows_of rows)) trees)
+
   -- and have this fault, if the reader has not failed
   abbrev pub HasFault : FileFault → Type 0
   HasFault fault = fault ≢ Memory → fault ≢ Reader → IfSome from (λ text. file_read (today first acts) text ≡ Err fault)
 
+  -- The rows of the file are in the books, now and after a stop. The connection is open, but where a keeper that may fail has read the
+  -- books since: then a fault of the disk may have shut it.
+  pub record IsTaken (may_fail : Type 0) (tally : Tally) (books : Connected S) : Type 0 where
+    pub rows : List (Key × Command)
+    pub read : AreRead rows
+    pub told : taken tally ≡ file_outcome first acts (rows_of rows)
+    pub history : IsHistory first (acts_after_file first acts (rows_of rows))
+    pub holds : HoldsBooks g first (acts_after_file first acts (rows_of rows)) books
+    pub leaves : LeavesOnly first (acts_after_file first acts (rows_of rows)) (state g books.conn)
+    pub is_open : ¬ may_fail → IsTrue (state g books.conn).is_open
+
   -- what taking in a file comes to: what the machine says of its rows
   abbrev pub IsTakenIn : Result Tally Fault → Connected S → Type 0
-  IsTakenIn (Ok tally) new =
-      (rows : List (Key × Command)) × AreRead rows × (taken tally ≡ file_outcome first acts (rows_of rows))
-      × HasRows first acts (rows_of rows) (state g new.conn) × HoldsBooks g first (acts_after_file first acts (rows_of rows)) new
+  IsTakenIn (Ok tally) new = IsTaken ⊥ tally new
   IsTakenIn (Err (Row row why)) new = (rows : List (Key × Command)) × AreRead rows × (RefusedRow row why ≡ file_outcome first acts (rows_of rows)) × HoldsBooks g first acts new
   IsTakenIn (Err (File fault)) new = HasFault fault × HoldsBooks g first acts new
   IsTakenIn (Err Store) new = HoldsBooks g first acts new
@@ -76,23 +98,15 @@ module _ {S : Type 0} (g : Ghosts S) (first : ℤ) (acts : List Act) (from : Opt
   IsTakenIn (Err Acts) new = ⊥
   IsTakenIn (Err Value) new = ⊥
 
-  -- the same, and the tally is printed; where it could not be, the file is taken in all the same; a file that is not taken in prints nothing
-  abbrev pub IsImported : Result Unit Fault → Connected S → Option (List ℕ) → Option (List ℕ) → Type 0
-  IsImported (Ok done) new old_out new_out = (tally : Tally) × IsTakenIn (Ok tally) new × Appends old_out new_out (tally_line tally.accepted tally.repeated)
-  IsImported (Err Io) new old_out new_out = (tally : Tally) × IsTakenIn (Ok tally) new
-  IsImported (Err (Usage error)) new old_out new_out = ⊥
-  IsImported (Err (Label fault)) new old_out new_out = ⊥
-  IsImported (Err (File fault)) new old_out new_out = IsTakenIn (Err (File fault)) new × (new_out ≡ old_out)
-  IsImported (Err (Row row why)) new old_out new_out = IsTakenIn (Err (Row row why)) new × (new_out ≡ old_out)
-  IsImported (Err (RefusedText why)) new old_out new_out = ⊥
-  IsImported (Err (Audit fault)) new old_out new_out = ⊥
-  IsImported (Err (Apply fault)) new old_out new_out = ⊥
-  IsImported (Err Acts) new old_out new_out = ⊥
-  IsImported (Err Value) new old_out new_out = ⊥
-  IsImported (Err Store) new old_out new_out = HoldsBooks g first acts new × (new_out ≡ old_out)
-  IsImported (Err Foreign) new old_out new_out = ⊥
+  -- the file is refused or could not be read, and its rows are not in the books
+  pub record IsUntaken (end : Result Unit Fault) (books : Connected S) : Type 0 where
+    pub why : (end ≡ Err Io) ⊎ ((fault : Fault) × (end ≡ Err fault) × IsTakenIn (Err fault) books)
+    pub holds : HoldsBooks g first acts books
+    pub leaves : LeavesFile (state g books.conn)
 
--- a file with these bytes, where they are known, is imported; or it could not be opened, and nothing was done or printed
-abbrev pub IsFileImported : {S : Type 0} → Ghosts S → ℤ → List Act → Option (List ℕ) → Result Unit Fault → Connected S → Option (List ℕ) → Option (List ℕ) → Type 0
-IsFileImported g first acts from end new old_out new_out =
-    IsImported g first acts from end new old_out new_out ⊎ ((end ≡ Err Io) × (new_out ≡ old_out) × HoldsBooks g first acts new)
+  -- The file was taken in, and what it did is kept before it is told; or it was not, and nothing is told. `Keeps` says that these acts
+  -- are kept, `Leaves` what a stop leaves where they could not be, and `may_fail` that this can be.
+  abbrev pub IsImported : (Keeps Leaves : List Act → Type 0) → (may_fail : Type 0) → Result Unit Fault → Connected S → (old new : Option (List ℕ)) → Type 0
+  IsImported Keeps Leaves may_fail end books old new =
+      ((tally : Tally) × (t : IsTaken may_fail tally books) × IsTallyEnd (Keeps (acts_after_file first acts (rows_of t.rows))) (Leaves (acts_after_file first acts (rows_of t.rows))) may_fail tally end old new)
+      ⊎ (IsUntaken end books × (new ≡ old) × Keeps acts)

@@ -1,3 +1,4 @@
+pub mod Failing
 pub mod Serving
 pub mod Kept
 pub mod Importing

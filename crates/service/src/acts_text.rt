@@ -9,14 +9,14 @@ ghost use Rattle.machine.specs.Once.{IsHistory};
 ghost use Rattle.store.specs.Books.{KeepsBooks, HoldsBooks, IsClean};
 ghost use Rattle.store.specs.Opening.{IsOfNone, AreFoundRows};
 ghost use Rattle.histories.specs.Printed.{IsHistoryPrinted};
-ghost use Rattle.line_books.specs.Failing.{IsUnopened};
+ghost use Rattle.service.specs.Failing.{IsUnopened};
 ghost use Rattle.service.specs.ActsTold.{fault_told};
 
 use crate::lent::Lent;
+use crate::{AfterWork, NotBegun, open_books};
 use books_schema::ready_connection::Orderly;
 use command_line::Fault;
 use histories::{HistoryFault, print_history};
-use line_books::{AfterWork, NotBegun, open_books};
 use sqlite::{Alter, Connection};
 use std::alloc::Global;
 use std::io::Write;

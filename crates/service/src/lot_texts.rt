@@ -34,7 +34,7 @@ pub fn print_card<S: Alter, W: Write>(
     print_result(end)
 }
 
-/// Prints the recall notice of a lot, row by row. The error is the refusal (U01, N01), and then nothing was printed; or
+/// Prints the recall notice of a lot, of one moment. The error is the refusal (U01, N01), and then nothing was printed; or
 /// `Store`, or `Io` where the output failed, and then a beginning was printed. Nothing is changed.
 pub fn print_notice<S: Alter, W: Write>(
     books: &mut Books<S>,

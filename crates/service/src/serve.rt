@@ -1,10 +1,10 @@
-ghost use Rattle.std.specs.Prelude.{◌≡◌, ℕ, ℤ, List, true, false, IsTrue};
+ghost use Rattle.std.specs.Prelude.{◌≡◌, ℕ, ℤ, List, true, false, IsTrue, IfErr};
 ghost use Rattle.machine.specs.Acts.{Act};
 ghost use Rattle.machine.specs.Once.{IsHistory};
 ghost use Rattle.store.specs.Books.{IsClean, HoldsBooks};
 ghost use Rattle.house.specs.House.{books_of};
-ghost use Rattle.service.specs.Serving.{HasServed, HasLogged};
-ghost use Rattle.service.specs.Kept.{GoesOnKept, HasKept, end_after};
+ghost use Rattle.service.specs.Serving.{HasServed, HasLogged, all_sent};
+ghost use Rattle.service.specs.Kept.{GoesOnKept, HasKept, MayStop, end_after};
 
 use crate::timed::Timed;
 use house::{House, KeepFault, Keeper, NoKeeper, Served};
@@ -62,7 +62,7 @@ pub fn serve_logged<C: Clock, S: Alter + Drop, L: Write>(
     ensures clean { IsClean S.Store (books_of house.new) → IsClean S.Store (books_of house.old) }
     ensures served { IsClean S.Store (books_of house.new)
         → (first : ℤ) (acts : List Act) → IsHistory first acts → HoldsBooks S.Store first acts (books_of house.old)
-        → HasLogged S.Store first acts max (books_of house.old) (books_of house.new) true result (L.contents log.old) (L.contents log.new) }
+        → HasLogged S.Store first acts max (books_of house.old) (books_of house.new) true all_sent result (L.contents log.old) (L.contents log.new) }
 {
     match serve_kept(clock, listener, house, max, log, &mut NoKeeper) {
         Ok(()) => Ok(()),
@@ -83,7 +83,8 @@ pub fn serve_kept<C: Clock, S: Alter + Drop, L: Write, K: Keeper<S>>(
     ensures clean { IsClean S.Store (books_of house.new) → IsClean S.Store (books_of house.old) }
     ensures served { IsClean S.Store (books_of house.new)
         → (first : ℤ) (acts : List Act) → IsHistory first acts → HoldsBooks S.Store first acts (books_of house.old)
-        → HasKept S.Store K.keeps K.begins first acts max (books_of house.old) (books_of house.new) true result (L.contents log.old) (L.contents log.new) keeper.old keeper.new }
+        → HasKept S.Store K.keeps K.leaves first acts max (books_of house.old) (books_of house.new) true result (L.contents log.old) (L.contents log.new) keeper.old keeper.new }
+    ensures fails { IfErr result (λ e. MayStop K.may_fail e) }
     ensures loses { (text : List ℕ) → K.has_text keeper.old text → K.has_text keeper.new text }
     ensures calm { IsTrue (K.is_clean keeper.new) → IsTrue (K.is_clean keeper.old) }
 {
@@ -94,7 +95,7 @@ pub fn serve_kept<C: Clock, S: Alter + Drop, L: Write, K: Keeper<S>>(
 }
 
 /// The same, with a log or without.
-pub fn serve_kept_if<C: Clock, S: Alter + Drop, L: Write, K: Keeper<S>>(
+pub(crate) fn serve_kept_if<C: Clock, S: Alter + Drop, L: Write, K: Keeper<S>>(
     clock: &C,
     logged: bool,
     listener: &TcpListener,
@@ -106,7 +107,8 @@ pub fn serve_kept_if<C: Clock, S: Alter + Drop, L: Write, K: Keeper<S>>(
     ensures clean { IsClean S.Store (books_of house.new) → IsClean S.Store (books_of house.old) }
     ensures served { IsClean S.Store (books_of house.new)
         → (first : ℤ) (acts : List Act) → IsHistory first acts → HoldsBooks S.Store first acts (books_of house.old)
-        → HasKept S.Store K.keeps K.begins first acts max (books_of house.old) (books_of house.new) logged result (L.contents log.old) (L.contents log.new) keeper.old keeper.new }
+        → HasKept S.Store K.keeps K.leaves first acts max (books_of house.old) (books_of house.new) logged result (L.contents log.old) (L.contents log.new) keeper.old keeper.new }
+    ensures fails { IfErr result (λ e. MayStop K.may_fail e) }
     ensures loses { (text : List ℕ) → K.has_text keeper.old text → K.has_text keeper.new text }
     ensures calm { IsTrue (K.is_clean keeper.new) → IsTrue (K.is_clean keeper.old) }
     ensures quiet { logged ≡ false → log.new ≡ log.old }
@@ -129,7 +131,8 @@ fn serve_next<C: Clock, S: Alter + Drop, L: Write, K: Keeper<S>>(
     ensures clean { IsClean S.Store (books_of house.new) → IsClean S.Store (books_of house.old) }
     ensures step { IsClean S.Store (books_of house.new)
         → (first : ℤ) (acts : List Act) → IsHistory first acts → HoldsBooks S.Store first acts (books_of house.old)
-        → GoesOnKept S.Store K.keeps K.begins first acts (books_of house.old) (books_of house.new) result (L.contents log.old) (L.contents log.new) keeper.old keeper.new }
+        → GoesOnKept S.Store K.keeps K.leaves first acts (books_of house.old) (books_of house.new) result (L.contents log.old) (L.contents log.new) keeper.old keeper.new }
+    ensures fails { IfErr result (λ e. MayStop K.may_fail e) }
     ensures loses { (text : List ℕ) → K.has_text keeper.old text → K.has_text keeper.new text }
     ensures calm { IsTrue (K.is_clean keeper.new) → IsTrue (K.is_clean keeper.old) }
 {
@@ -152,7 +155,8 @@ fn serve_stream<C: Clock, S: Alter + Drop, L: Write, K: Keeper<S>>(
     ensures clean { IsClean S.Store (books_of house.new) → IsClean S.Store (books_of house.old) }
     ensures step { IsClean S.Store (books_of house.new)
         → (first : ℤ) (acts : List Act) → IsHistory first acts → HoldsBooks S.Store first acts (books_of house.old)
-        → GoesOnKept S.Store K.keeps K.begins first acts (books_of house.old) (books_of house.new) result (L.contents log.old) (L.contents log.new) keeper.old keeper.new }
+        → GoesOnKept S.Store K.keeps K.leaves first acts (books_of house.old) (books_of house.new) result (L.contents log.old) (L.contents log.new) keeper.old keeper.new }
+    ensures fails { IfErr result (λ e. MayStop K.may_fail e) }
     ensures loses { (text : List ℕ) → K.has_text keeper.old text → K.has_text keeper.new text }
     ensures calm { IsTrue (K.is_clean keeper.new) → IsTrue (K.is_clean keeper.old) }
 {

@@ -1,21 +1,5 @@
 -- How many rows there are at most: as they are read, on a history, and once a slice has been read.
-use Rattle.std.proofs.Common.{◌≡◌, inl, inr, ℕ, ◌<◌, ◌≤◌, true, List, map, length, refl, ap, sym, subst, ◌∙◌, arith}
-use Rattle.std.proofs.lemmas.Bool.Decides.{nat_tests}
-use Rattle.std.specs.Prelude.{nat_le, find, Option, is_some}
-use Rattle.values.specs.Values.{same_text}
-use Rattle.commands.specs.Tables.{Tables}
-use Rattle.commands.specs.declared.command.Command.{Command}
-use Rattle.commands.specs.declared.command.Command.TheVariants.{Item, Bin}
-use Rattle.commands.specs.declared.limits.TheConstants.{ITEMS_MAX, BINS_MAX}
-use Rattle.commands.specs.declared.rows.ItemRow.{ItemRow}
-use Rattle.commands.specs.declared.rows.BinRow.{BinRow}
-use Rattle.table_words.specs.Typed.{item_key, bin_key}
-use Rattle.machine.proofs.Apart.{AreApart, any_found}
-use Rattle.known_reads.specs.Reading.{IsCount}
-use Rattle.slices.specs.Bounding.{IsAtMost, AreBounds, IsToldNumber, with_counts}
-use Rattle.slices.specs.Slicing.{AreCounts}
-use Rattle.slices.specs.declared.knowing.Bounds.{Bounds}
-use Rattle.machine.proofs.Tests.{same_text_is, same_text_refl}
+use Rattle.slices.proofs.Words.{◌≡◌, inl, inr, ℕ, ◌<◌, ◌≤◌, true, List, map, length, refl, ap, sym, subst, ◌∙◌, arith, nat_tests, nat_le, find, Option, is_some, same_text, Tables, Command, Item, Bin, ITEMS_MAX, BINS_MAX, ItemRow, BinRow, item_key, bin_key, AreApart, any_found, IsCount, IsAtMost, AreBounds, IsToldNumber, with_counts, AreCounts, Bounds, same_text_is, same_text_refl}
 use Rattle.slices.proofs.RowsTold.{rows_read}
 use Rattle.slices.proofs.Counted.{no_longer, as_many, any_mapped, apart_names, length_mapped}
 

@@ -1,24 +1,7 @@
 -- The orders that may be open: as they are read, without those of which a row tells that they are closed, and with those of a change.
-use Rattle.std.proofs.Common.{◌≡◌, ℕ, Bool, true, false, ◌&&◌, not, List, [], ◌∷◌, map, filter, refl, ap, sym, subst, ◌∙◌}
-use Rattle.std.specs.Prelude.{◌||◌, if◌then◌else◌, find, Option, Some, None, is_some}
-use Rattle.std.specs.List.{list_any}
-use Rattle.values.specs.Values.{same_text}
-use Rattle.commands.specs.Tables.{Tables}
-use Rattle.commands.specs.declared.rows.OrderRow.{OrderRow}
-use Rattle.commands.specs.declared.rows.UrgentRow.{UrgentRow}
-use Rattle.commands.specs.declared.rows.LineRow.{LineRow}
-use Rattle.commands.specs.declared.rows.OrderState.{OrderState}
-use Rattle.commands.specs.declared.rows.OrderState.TheVariants.{Open, Done, Cancelled}
-use Rattle.open_orders.specs.OpenLines.{Entries, holds, Gains, Loses, has_line_row, is_closed_state, has_closed_row}
+use Rattle.slices.proofs.Words.{◌≡◌, ℕ, Bool, true, false, ◌&&◌, not, List, [], ◌∷◌, map, filter, refl, ap, sym, subst, ◌∙◌, ◌||◌, if◌then◌else◌, find, Option, Some, None, is_some, list_any, same_text, Tables, OrderRow, UrgentRow, LineRow, OrderState, Open, Done, Cancelled, Entries, holds, Gains, Loses, has_line_row, is_closed_state, has_closed_row, only_if, OrderKey, same_order, order_key, is_open_order, UrgentKey, same_urgent, urgent_key, LineKey, same_line, line_key, is_open_state, AreOwn, and_both, or_first, or_later, same_text_is, same_text_refl, same_text_turned, Put, is_among, is_passed, is_open_in, with_names, other_names, has_urgent_row, urgent_lines, opens, opened_by, comes, Covers, CoversUrgent, AreAllLines, AreUrgents, AreNamed, AreKnownOrders, AreOpenLines, AreLinesPut, AreUrgentsPut, Knows, Known}
 use Rattle.table_words.specs.Found as read
-use Rattle.table_words.specs.Found.{only_if}
-use Rattle.table_words.specs.Typed.{OrderKey, same_order, order_key, is_open_order, UrgentKey, same_urgent, urgent_key, LineKey, same_line, line_key}
-use Rattle.machine.specs.Planning.{is_open_state}
-use Rattle.machine.specs.KeyedRows.{AreOwn}
-use Rattle.machine.proofs.Tests.{and_both, or_first, or_later, same_text_is, same_text_refl, same_text_turned}
-use Rattle.row_rules.specs.declared.slice.Put.{Put}
-use Rattle.slices.specs.Slicing.{Each, is_among, is_passed, is_open_in, with_names, other_names, has_urgent_row, urgent_lines, opens, opened_by, comes, Covers, CoversUrgent, AreAllLines, AreUrgents, AreNamed, AreKnownOrders, AreOpenLines, AreLinesPut, AreUrgentsPut, Knows}
-use Rattle.slices.specs.declared.knowing.Known.{Known}
+use Rattle.slices.specs.Slicing.{Each}
 use Rattle.slices.proofs.Counted.{any_mapped}
 use Rattle.slices.proofs.KnownOrders.{any_more, among_others}
 use Rattle.slices.proofs.OwnRows.{any_kept}

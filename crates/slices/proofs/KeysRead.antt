@@ -1,12 +1,6 @@
 -- Rows sought by one key after another, of keys that are apart.
-use Rattle.std.proofs.Common.{◌≡◌, Bool, true, false, not, List, [], ◌∷◌, ◌++◌, Option, sym, subst, ◌∙◌}
-use Rattle.std.specs.Prelude.{◌||◌}
-use Rattle.std.specs.List.{list_any}
+use Rattle.slices.proofs.Words.{◌≡◌, Bool, true, false, not, List, [], ◌∷◌, ◌++◌, Option, sym, subst, ◌∙◌, ◌||◌, list_any, AreRows, no_two, and_both, not_true, has_key, Each}
 use Rattle.table_words.specs.Found as read
-use Rattle.machine.specs.KeyedRows.{AreRows, no_two}
-use Rattle.machine.proofs.Tests.{and_both, not_true}
-use Rattle.slice_lists.specs.Keys.{has_key}
-use Rattle.known_reads.specs.Reading.{Each}
 use Rattle.slices.proofs.RowsTold.{read_none, read_both, rows_read, rows_as}
 
 module _ {J : Type 0} (one : J → J → Bool) (is_one : (j m : J) → one j m ≡ true → j ≡ m) (turned : (j m : J) → one j m ≡ one m j) where

@@ -1,3 +1,11 @@
+mod Words
+pub mod TypedRows
+pub mod ReadSteps
+pub mod KnownSteps
+pub mod KnowingSteps
+pub mod RowsChanged
+pub mod KnownWritten
+pub mod RowsAmong
 pub mod Counted
 pub mod AtMost
 pub mod RowsTold

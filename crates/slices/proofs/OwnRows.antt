@@ -1,8 +1,5 @@
 -- Rows that are a table's: one of them that passes a test, and none at all.
-use Rattle.std.proofs.Common.{◌≡◌, Bool, true, false, ◌&&◌, List, [], ◌∷◌, filter, refl, ap, sym, subst}
-use Rattle.std.specs.Prelude.{◌||◌, if◌then◌else◌, Option}
-use Rattle.std.specs.List.{list_any}
-use Rattle.machine.specs.KeyedRows.{AreRows, AreOwn}
+use Rattle.slices.proofs.Words.{◌≡◌, Bool, true, false, ◌&&◌, List, [], ◌∷◌, filter, refl, ap, sym, subst, ◌||◌, if◌then◌else◌, Option, list_any, AreRows, AreOwn}
 
 -- what follows of a row that passes follows of rows of which one does
 pub own_any : {K R : Type 0} (key : R → K) (allowed : K → Bool) (row : K → Option R) (test : R → Bool) (rows : List R) (P : Type 0) → AreOwn key allowed row rows → ((r : R) → test r ≡ true → allowed (key r) ≡ true → P) → list_any test rows ≡ true → P

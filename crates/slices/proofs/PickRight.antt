@@ -1,22 +1,5 @@
 -- What is read for a pick of the tables of a history is its slice.
-use Rattle.std.proofs.Common.{◌≡◌, ℕ, Bool, true, false, ◌&&◌, List, sym, ◌∙◌}
-use Rattle.std.specs.Prelude.{◌||◌, Some, ℤ}
-use Rattle.std.specs.List.{list_any}
-use Rattle.values.specs.Values.{same_text}
-use Rattle.values.specs.declared.lot.LotId.{LotId}
-use Rattle.commands.specs.Tables.{Tables}
-use Rattle.commands.specs.declared.key.Key.{Key}
-use Rattle.commands.specs.declared.command.Command.TheVariants.{Pick}
-use Rattle.commands.specs.declared.command.Picking.{Picking}
-use Rattle.commands.specs.declared.rows.StockRow.{StockRow}
-use Rattle.table_words.specs.Typed.{same_lot_id, ItemKey, same_item, item_key, LeastKey, same_least, least_key, BinKey, same_bin, bin_key, LotKey, same_lot, lot_key, RecallKey, same_recall, recall_key, StockKey, same_stock, stock_key, StagedKey, same_staged, staged_key, ReservedKey, same_reserved, reserved_key, OrderKey, same_order, order_key, UrgentKey, same_urgent, urgent_key, LineKey, same_line, line_key}
-use Rattle.machine.specs.Acts.{Act}
-use Rattle.machine.specs.Postings.{is_lot}
-use Rattle.machine.specs.Tables.{tables_of}
-use Rattle.machine.proofs.Tests.{and_both, or_false, or_first, same_text_turned, same_text_is, same_text_refl, is_lot_is, is_lot_refl, is_lot_turned, is_lot_item}
-use Rattle.rules.specs.Slices.{IsSlice, has_touched_line}
-use Rattle.row_rules.specs.declared.slice.Slice.{Slice}
-use Rattle.slices.specs.Slicing.{ArePicked}
+use Rattle.slices.proofs.Words.{◌≡◌, ℕ, Bool, true, false, ◌&&◌, List, sym, ◌∙◌, ◌||◌, Some, ℤ, list_any, same_text, LotId, Tables, Key, Pick, Picking, StockRow, same_lot_id, ItemKey, same_item, item_key, LeastKey, same_least, least_key, BinKey, same_bin, bin_key, LotKey, same_lot, lot_key, RecallKey, same_recall, recall_key, StockKey, same_stock, stock_key, StagedKey, same_staged, staged_key, ReservedKey, same_reserved, reserved_key, OrderKey, same_order, order_key, UrgentKey, same_urgent, urgent_key, LineKey, same_line, line_key, Act, is_lot, tables_of, and_both, or_false, or_first, same_text_turned, same_text_is, same_text_refl, is_lot_is, is_lot_refl, is_lot_turned, is_lot_item, IsSlice, has_touched_line, Slice, ArePicked}
 use Rattle.slices.proofs.KeysTold.{same_cell_is, same_cell_refl, same_share_is, same_share_refl, same_line_is, same_line_refl}
 use Rattle.slices.proofs.RowsTold.{and_true, rows_read_as}
 use Rattle.slices.proofs.OwnRows.{no_rows}

@@ -1,19 +1,10 @@
 -- Rows sought by texts, and lines of orders, one after another.
-use Rattle.std.proofs.Common.{◌≡◌, ℕ, ◌+◌, ◌<◌, length, map, take, Option, Bool, true, false, ◌&&◌, not, List, [], ◌∷◌, ◌++◌, Ok, refl, ap, sym, subst, ◌∙◌}
-use Rattle.std.specs.Prelude.{◌||◌, get_or}
-use Rattle.std.proofs.lemmas.List.{map_more}
-use Rattle.std.specs.List.{list_any}
-use Rattle.values.specs.Values.{same_text}
-use Rattle.sqlite.specs.State.{State}
-use Rattle.commands.specs.declared.rows.LineRow.{LineRow}
+use Rattle.slices.proofs.Words.{◌≡◌, ℕ, ◌+◌, ◌<◌, length, map, take, Option, Bool, true, false, ◌&&◌, not, List, [], ◌∷◌, ◌++◌, Ok, refl, ap, sym, subst, ◌∙◌, ◌||◌, get_or, map_more, list_any, same_text, State, LineRow, no_two, and_both, and_false, not_true, same_text_is, same_text_turned, IsRead, is_among, listed, AreLinesOf, AreLinesFor}
 use Rattle.table_words.specs.Typed.{Tables}
 use Rattle.table_words.specs.Found as read
-use Rattle.machine.specs.KeyedRows.{no_two}
-use Rattle.machine.proofs.Tests.{and_both, and_false, not_true, same_text_is, same_text_turned}
-use Rattle.known_reads.specs.Reading.{IsRead}
-use Rattle.slices.specs.Slicing.{Each, is_among, listed, AreLinesOf, AreLinesFor}
-use Rattle.known_reads.proofs.ReadSteps.{then_answers}
-use Rattle.known_reads.proofs.SeekSteps.{each_more, place}
+use Rattle.slices.specs.Slicing.{Each}
+use Rattle.slices.proofs.ReadSteps.{then_answers}
+use Rattle.slices.proofs.KnownSteps.{each_more, place}
 use Rattle.slices.proofs.RowsTold.{read_none, read_both}
 
 -- the rows of each of some texts, of which none is there twice

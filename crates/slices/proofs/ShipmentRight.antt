@@ -1,29 +1,8 @@
 -- What is read for a shipment of the tables of a history is its slice.
-use Rattle.std.proofs.Common.{◌≡◌, ℕ, Bool, true, false, ◌&&◌, List, [], ◌∷◌, filter, refl, ap, sym, ◌∙◌}
-use Rattle.std.specs.Prelude.{◌||◌, Some, ℤ}
-use Rattle.std.specs.List.{list_any}
-use Rattle.values.specs.Values.{same_text}
-use Rattle.values.specs.declared.lot.LotId.{LotId}
-use Rattle.commands.specs.Tables.{Tables}
-use Rattle.commands.specs.declared.key.Key.{Key}
-use Rattle.commands.specs.declared.command.Command.TheVariants.{Ship}
-use Rattle.commands.specs.declared.rows.LineRow.{LineRow}
-use Rattle.commands.specs.declared.rows.StagedRow.{StagedRow}
-use Rattle.table_words.specs.Typed.{ItemKey, same_item, item_key, LeastKey, same_least, least_key, BinKey, same_bin, bin_key, LotKey, same_lot, lot_key, RecallKey, same_recall, recall_key, StockKey, same_stock, stock_key, StagedKey, same_staged, staged_key, ReservedKey, same_reserved, reserved_key, OrderKey, same_order, order_key, UrgentKey, same_urgent, urgent_key, LineKey, same_line, line_key}
-use Rattle.machine.specs.Acts.{Act}
-use Rattle.machine.specs.Postings.{is_lot}
-use Rattle.machine.specs.Standing.{has_line}
-use Rattle.machine.specs.Tables.{tables_of}
-use Rattle.machine.specs.KeyedRows.{AreRows}
-use Rattle.machine.proofs.Tests.{and_both, or_false, or_first, or_later, same_text_is, same_text_refl, is_lot_is, is_lot_turned, is_lot_item}
-use Rattle.rules.specs.Slices.{IsSlice, on_named_stage, has_touched_line}
-use Rattle.row_rules.specs.declared.slice.Slice.{Slice}
-use Rattle.slice_lists.specs.Keys.{has_key}
-use Rattle.slices.specs.Slicing.{is_among, with_names, lots_on_stage, AreShipped}
+use Rattle.slices.proofs.Words.{◌≡◌, ℕ, Bool, true, false, ◌&&◌, List, [], ◌∷◌, filter, refl, ap, sym, ◌∙◌, ◌||◌, Some, ℤ, list_any, same_text, LotId, Tables, Key, Ship, LineRow, StagedRow, ItemKey, same_item, item_key, LeastKey, same_least, least_key, BinKey, same_bin, bin_key, LotKey, same_lot, lot_key, RecallKey, same_recall, recall_key, StockKey, same_stock, stock_key, StagedKey, same_staged, staged_key, ReservedKey, same_reserved, reserved_key, OrderKey, same_order, order_key, UrgentKey, same_urgent, urgent_key, LineKey, same_line, line_key, Act, is_lot, has_line, tables_of, AreRows, and_both, or_false, or_first, or_later, same_text_is, same_text_refl, is_lot_is, is_lot_turned, is_lot_item, IsSlice, on_named_stage, has_touched_line, Slice, has_key, is_among, with_names, lots_on_stage, AreShipped, has_keys, once_keys}
 use Rattle.slices.proofs.KeysTold.{same_cell_is, same_cell_refl, same_share_is, same_share_refl, same_line_is, same_line_refl}
 use Rattle.slices.proofs.RowsTold.{rows_as}
 use Rattle.slices.proofs.SliceTold.{among_names, once_names, sought}
-use Rattle.slice_lists.proofs.KeysOnce.{has_keys, once_keys}
 use Rattle.slices.proofs.KeysRead.{keys_read}
 use Rattle.slices.proofs.LinesTold.{taken}
 use Rattle.slices.proofs.OwnRows.{own_any, any_kept, no_rows}

@@ -1,29 +1,6 @@
--- What the read of a slice tells on the books of a history.
-use Rattle.std.proofs.Common.{◌≡◌, ◌&&◌, List, [], ◌∷◌, Result, Ok, Err, IfOk, IfErr, IsTrue, sym, subst}
-use Rattle.std.specs.Prelude.{ℤ}
-use Rattle.commands.specs.Tables.{Tables}
-use Rattle.commands.specs.declared.key.Key.{Key}
-use Rattle.commands.specs.declared.command.Command.{Command}
-use Rattle.commands.specs.declared.command.Command.TheVariants.{Pick, Ship}
-use Rattle.sqlite.specs.State.{State, HasCleanDisk}
-use Rattle.table_words.specs.Steps.{IsReady}
-use Rattle.table_words.specs.Typed.{tables_in}
-use Rattle.table_words.specs.declared.error.TableFault.{TableFault}
-use Rattle.machine.specs.Acts.{Act}
-use Rattle.machine.specs.Once.{IsHistory}
-use Rattle.machine.specs.Tables.{tables_of}
-use Rattle.rules.specs.Slices.{IsSlice}
-use Rattle.row_rules.specs.declared.slice.Rows.{Rows}
-use Rattle.row_rules.specs.declared.slice.Slice.{Slice}
-use Rattle.open_orders.specs.OpenLines.{Entries, Loses, has_closed_row, has_line_row}
-use Rattle.slices.specs.Books.{IsBooksOf}
-use Rattle.known_reads.specs.Reading.{IsRead}
-use Rattle.slices.specs.Bounding.{AreBounds, with_counts}
-use Rattle.slices.specs.Remembering.{KnowsRows, KnowsNoRows, Learning}
-use Rattle.slices.specs.Slicing.{HoldsOf, IsSliceIn, AreSliced, orders_named}
-use Rattle.slices.specs.declared.knowing.Bounds.{Bounds}
-use Rattle.slices.specs.declared.knowing.Known.{Known}
-use Rattle.slices.specs.declared.rows_known.RowsKnown.{RowsKnown}
+-- What the read of a slice tells.
+use Rattle.slices.proofs.Words.{◌≡◌, ◌&&◌, List, [], ◌∷◌, Result, Ok, Err, IfOk, IfErr, IsTrue, sym, subst, Tables, Command, Pick, Ship, State, HasCleanDisk, IsReady, tables_in, TableFault, Rows, Slice, Entries, Loses, has_closed_row, has_line_row, IsRead, AreBounds, with_counts, KnowsRows, KnowsNoRows, Learning, HoldsOf, IsSliceOf, IsSliceIn, AreSliced, orders_named, Bounds, Known, RowsKnown}
+use Rattle.slices.proofs.ReadSteps.{as_told}
 use Rattle.slices.proofs.AtMost.{bounds_counted}
 use Rattle.slices.proofs.Covering.{StaysKnown, known_met, known_shipped, known_picked}
 use Rattle.slices.proofs.StillKnown.{no_rows_known}
@@ -51,12 +28,10 @@ module _ (known : Known) (taken none learned : RowsKnown) (is_taken : taken ≡ 
       → IsSliceIn emptied command (tables_in before.now.trees) s × KnowsRows (tables_in before.now.trees) learned
   slice_found s one clean ready up holds = (one.answers clean ready up).1 (subst (λ (x : RowsKnown). KnowsRows (tables_in before.now.trees) x) (sym is_taken) holds.rows)
 
-  pub slice_read : (r : Result Slice TableFault) → IsRead (Learning taken learned (λ t s. IsSliceIn emptied command t s)) before after r → HasCleanDisk after → IsTrue before.is_open → (first : ℤ) (acts : List Act) (key : Key) → IsHistory first acts → IsBooksOf first acts before.now
-      → HoldsOf known (tables_in before.now.trees) → IfOk r (IsSlice first (record { key = key; command = command }) acts (tables_of first acts))
-  slice_read (Ok s) one clean up first acts key history books holds =
-      let slice = subst (λ (t : Tables). IsSliceIn emptied command t s) books.rows.tables (slice_found s one clean books.ready up holds).0 in
-      slice_right first acts key command emptied (subst (λ (t : Tables). HoldsOf emptied t) books.rows.tables (holds_emptied (tables_in before.now.trees) holds)) history s slice.meta slice.counted slice.rows
-  slice_read (Err e) one clean up first acts key history books holds = tt
+  pub slice_read : (r : Result Slice TableFault) → IsRead (Learning taken learned (λ t s. IsSliceIn emptied command t s)) before after r → IsRead (λ t s. HoldsOf known t → IsSliceOf command t s) before after r
+  slice_read r one = as_told one (λ t s tells holds first acts key history is.
+      let slice = subst (λ (t : Tables). IsSliceIn emptied command t s) is (tells (subst (λ (x : RowsKnown). KnowsRows t x) (sym is_taken) holds.rows)).0 in
+      slice_right first acts key command emptied (subst (λ (t : Tables). HoldsOf emptied t) is (holds_emptied t holds)) history s slice.meta slice.counted slice.rows)
 
   -- without the closed orders that it tells, and with the numbers and rows that it tells, what is known is so
   pub slice_holds : (r : Result Slice TableFault) (new : Known) → IsRead (Learning taken learned (λ t s. IsSliceIn emptied command t s)) before after r

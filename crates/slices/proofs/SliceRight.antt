@@ -1,52 +1,9 @@
 -- What is read of the tables of a history is the slice of the command.
-use Rattle.std.proofs.Common.{◌≡◌, ℕ, Bool, true, false, ◌&&◌, not, List, [], ◌∷◌, length, refl, ap, sym, subst, ◌∙◌}
-use Rattle.std.specs.Prelude.{◌||◌, ◌==◌, nat_le, if◌then◌else◌, find, Option, Some, None, option_map, is_some, ℤ}
-use Rattle.std.specs.List.{list_any, list_all, cons_option}
-use Rattle.std.specs.Option.{option_to_list}
-use Rattle.values.specs.Values.{same_text}
-use Rattle.values.specs.declared.lot.LotId.{LotId}
-use Rattle.commands.specs.Names.{names_of, is_picked}
-use Rattle.commands.specs.declared.names.NamedOrder.{NamedOrder}
-use Rattle.commands.specs.Tables.{Tables}
-use Rattle.commands.specs.declared.key.Key.{Key}
-use Rattle.commands.specs.declared.limits.TheConstants.{ITEMS_MAX, BINS_MAX}
-use Rattle.commands.specs.declared.command.NewItem.{NewItem}
-use Rattle.commands.specs.declared.command.NewBin.{NewBin}
-use Rattle.commands.specs.declared.command.OrderLine.{OrderLine}
-use Rattle.commands.specs.declared.command.Command.{Command}
-use Rattle.commands.specs.declared.command.Command.TheVariants.{Item, Bin, Receive, Move, Count, Adjust, Order, Urgent, Cancel, Pick, Unpick, Ship, Hold, Release, Recall, OpenDay, Least}
-use Rattle.commands.specs.declared.rows.ItemRow.{ItemRow}
-use Rattle.commands.specs.declared.rows.BinRow.{BinRow}
-use Rattle.commands.specs.declared.rows.StockRow.{StockRow}
-use Rattle.commands.specs.declared.rows.LineRow.{LineRow}
-use Rattle.commands.specs.declared.rows.StagedRow.{StagedRow}
-use Rattle.commands.specs.declared.rows.OrderState.TheVariants.{Open, Done, Cancelled}
-use Rattle.table_words.specs.Typed.{ItemKey, same_item, item_key, LeastKey, same_least, least_key, BinKey, same_bin, bin_key, LotKey, same_lot, lot_key, RecallKey, same_recall, recall_key, StockKey, same_stock, stock_key, StagedKey, same_staged, staged_key, ReservedKey, same_reserved, reserved_key, OrderKey, same_order, order_key, UrgentKey, same_urgent, urgent_key, LineKey, same_line, line_key, is_open_order}
-use Rattle.machine.specs.Acts.{Act, next_number}
-use Rattle.machine.specs.Standing.{items, item_in, bins, Placed, orders, order_named, lines_of, lines_placed, is_cancelled}
-use Rattle.machine.specs.Planning.{order_state, is_open_state, is_open, shipped_of}
-use Rattle.machine.specs.Touched.{touches}
-use Rattle.machine.specs.Tables.{tables_of}
-use Rattle.machine.specs.Once.{IsHistory}
-use Rattle.machine.specs.Verdict.{verdict}
-use Rattle.machine.specs.Postings.{is_lot}
-use Rattle.machine.specs.KeyedRows.{AreRows, no_two}
-use Rattle.rules.specs.Slices.{IsSlice, names_order, names_bin, names_lot, counts_items, counts_bins, ships, picks, plans, takes_step, is_share, names_reserved, is_named, is_named_lot, is_either, in_bins, on_stages, on_named_stage, has_touched_line}
-use Rattle.row_rules.specs.declared.slice.Slice.{Slice}
-use Rattle.machine.proofs.Tests.{and_both, or_false, or_later, same_text_is, same_text_refl, same_text_turned, is_lot_is, is_lot_refl, is_lot_turned, is_lot_item}
-use Rattle.machine.proofs.Apart.{AreApart, any_found}
-use Rattle.machine.proofs.histories.Accepted.{item_accepted}
-use Rattle.machine.proofs.histories.Notices.{bins_apart}
-use Rattle.machine.proofs.histories.Orders.{found_order}
-use Rattle.rules.proofs.rows.SliceTells.{some_mapped, names_touched}
-use Rattle.slice_lists.specs.Keys.{has_key, with_keys}
-use Rattle.slices.specs.Slicing.{is_among, with_names, with_some, items_named, lots_named, orders_named, bins_named, whole_orders, held_lots, AreAllLines, AreCounts, AreTaken, AreTouched, ArePlanned, AreSliced, is_passed, is_open_in, HoldsOf}
-use Rattle.slices.specs.declared.knowing.Known.{Known}
+use Rattle.slices.proofs.Words.{◌≡◌, ℕ, Bool, true, false, ◌&&◌, not, List, [], ◌∷◌, length, refl, ap, sym, subst, ◌∙◌, ◌||◌, ◌==◌, nat_le, if◌then◌else◌, find, Option, Some, None, option_map, is_some, ℤ, list_any, list_all, cons_option, option_to_list, same_text, LotId, names_of, is_picked, NamedOrder, Tables, Key, ITEMS_MAX, BINS_MAX, NewItem, NewBin, OrderLine, Command, Item, Bin, Receive, Move, Count, Adjust, Order, Urgent, Cancel, Pick, Unpick, Ship, Hold, Release, Recall, OpenDay, Least, ItemRow, BinRow, StockRow, LineRow, StagedRow, Open, Done, Cancelled, ItemKey, same_item, item_key, LeastKey, same_least, least_key, BinKey, same_bin, bin_key, LotKey, same_lot, lot_key, RecallKey, same_recall, recall_key, StockKey, same_stock, stock_key, StagedKey, same_staged, staged_key, ReservedKey, same_reserved, reserved_key, OrderKey, same_order, order_key, UrgentKey, same_urgent, urgent_key, LineKey, same_line, line_key, is_open_order, Act, next_number, items, item_in, bins, Placed, orders, order_named, lines_of, lines_placed, is_cancelled, order_state, is_open_state, is_open, shipped_of, touches, tables_of, IsHistory, verdict, is_lot, AreRows, no_two, IsSlice, names_order, names_bin, names_lot, counts_items, counts_bins, ships, picks, plans, takes_step, is_share, names_reserved, is_named, is_named_lot, is_either, in_bins, on_stages, on_named_stage, has_touched_line, Slice, and_both, or_false, or_later, same_text_is, same_text_refl, same_text_turned, is_lot_is, is_lot_refl, is_lot_turned, is_lot_item, AreApart, any_found, item_accepted, bins_apart, found_order, some_mapped, names_touched, has_key, with_keys, is_among, with_names, with_some, items_named, lots_named, orders_named, bins_named, whole_orders, held_lots, AreAllLines, AreCounts, AreTaken, AreTouched, ArePlanned, AreSliced, is_passed, is_open_in, HoldsOf, Known, has_keys, once_keys}
 use Rattle.slices.proofs.AtMost.{told_number}
 use Rattle.slices.proofs.KeysTold.{same_cell_is, same_cell_refl, same_share_is, same_share_refl, same_line_is, same_line_refl}
 use Rattle.slices.proofs.RowsTold.{rows_as}
 use Rattle.slices.proofs.SliceTold.{among_with, once_with, among_names, once_names, sought}
-use Rattle.slice_lists.proofs.KeysOnce.{has_keys, once_keys}
 use Rattle.slices.proofs.KeysRead.{keys_read}
 use Rattle.slices.proofs.OwnRows.{own_any, no_rows}
 use Rattle.slices.proofs.PickRight.{pick_right}

@@ -1,29 +1,6 @@
 -- Of no rows, and of some rows fewer, what is known is so.
-use Rattle.std.proofs.Common.{sym, subst}
-use Rattle.std.specs.Prelude.{reverse, Option}
-use Rattle.std.specs.Ordering.{nat_cmp}
-use Rattle.std.specs.Cmp.Lexicographic.{slice_cmp}
-use Rattle.commands.specs.Tables.{Tables}
-use Rattle.commands.specs.declared.rows.MetaRow.{MetaRow}
-use Rattle.row_rules.specs.declared.slice.Put.{Put}
-use Rattle.slice_lists.specs.LotOrder.{lot_key as turned_lot, lot_key_cmp}
-use Rattle.slice_lists.specs.LineOrder.{turned_line, line_key_cmp}
-use Rattle.goods_tables.specs.Bins.{AreBinsOf}
-use Rattle.goods_tables.specs.Items.{AreItemsOf}
-use Rattle.goods_tables.specs.Least.{AreLeastOf}
-use Rattle.goods_tables.specs.Lots.{AreLotOf, AreLotsOf}
-use Rattle.goods_tables.specs.Recalls.{AreRecallsOf}
-use Rattle.order_tables.specs.Lines.{AreLinesOfOrder, AreLineOf}
-use Rattle.goods_tables.specs.Stock.{AreStockOf}
-use Rattle.order_tables.specs.Orders.{AreOrdersOf}
-use Rattle.order_tables.specs.Reserved.{AreReservedOfItem}
-use Rattle.order_tables.specs.Staged.{AreStagedOfItem}
-use Rattle.order_tables.specs.Urgents.{AreUrgentsOf}
-use Rattle.known_rows.proofs.Learned.{remembers_left, remembers_none}
-use Rattle.slices.specs.Following.{KnowsMeta, KnowsFollowed, KnowsNoneFollowed}
-use Rattle.slices.specs.Remembering.{KnowsRows, KnowsNoRows, ForgetsPut}
-use Rattle.slices.specs.declared.followed.Followed.{Followed}
-use Rattle.slices.specs.declared.rows_known.RowsKnown.{RowsKnown}
+use Rattle.slices.proofs.Words.{sym, subst, reverse, Option, nat_cmp, slice_cmp, Tables, MetaRow, Put, turned_lot, lot_key_cmp, turned_line, line_key_cmp, AreBinsOf, AreItemsOf, AreLeastOf, AreLotOf, AreRecallsOf, AreLinesOfOrder, AreLineOf, AreStockOf, AreOrdersOf, AreReservedOfItem, AreReservedOfOrder, AreStagedOfItem, AreStagedOfOrder, AreUrgentsOf, remembers_left, remembers_none, KnowsMeta, KnowsFollowed, KnowsNoneFollowed, KnowsRows, KnowsNoRows, ForgetsPut, Followed, RowsKnown}
+use Rattle.tables.specs.Lots.{AreLotsOf}
 
 -- of rows that follow what is written
 pub none_followed : (t : Tables) (known : Followed) → KnowsNoneFollowed known → KnowsFollowed t known
@@ -36,7 +13,9 @@ none_followed t known none = record {
   lines_at = remembers_none line_key_cmp turned_line (λ by found. AreLineOf by t found) known.lines_at.rows none.lines_at;
   stock = remembers_none (slice_cmp nat_cmp) reverse (λ by found. AreStockOf by t found) known.stock.rows none.stock;
   staged = remembers_none (slice_cmp nat_cmp) reverse (λ by found. AreStagedOfItem by t found) known.staged.rows none.staged;
+  staged_for = remembers_none (slice_cmp nat_cmp) reverse (λ by found. AreStagedOfOrder by t found) known.staged_for.rows none.staged_for;
   reserved = remembers_none (slice_cmp nat_cmp) reverse (λ by found. AreReservedOfItem by t found) known.reserved.rows none.reserved;
+  reserved_for = remembers_none (slice_cmp nat_cmp) reverse (λ by found. AreReservedOfOrder by t found) known.reserved_for.rows none.reserved_for;
   meta = subst (λ (x : Option MetaRow). KnowsMeta t x) (sym none.meta) tt;
 }
 

@@ -1,16 +1,5 @@
 -- The rows of the urgent ones among the orders of a slice are those of the slice.
-use Rattle.std.proofs.Common.{◌≡◌, ℕ, Bool, true, false, ◌&&◌, not, List, [], ◌∷◌, map, filter, refl, ap, sym, ◌∙◌}
-use Rattle.std.specs.Prelude.{◌||◌, find, Option, Some, None, is_some}
-use Rattle.std.specs.List.{list_any}
-use Rattle.values.specs.Values.{same_text}
-use Rattle.commands.specs.Tables.{Tables}
-use Rattle.commands.specs.declared.rows.OrderRow.{OrderRow}
-use Rattle.commands.specs.declared.rows.UrgentRow.{UrgentRow}
-use Rattle.open_orders.specs.OpenLines.{Entries, orders_at, holds}
-use Rattle.table_words.specs.Typed.{OrderKey, same_order, order_key, UrgentKey, same_urgent, urgent_key}
-use Rattle.machine.specs.KeyedRows.{AreRows, no_two}
-use Rattle.machine.proofs.Tests.{and_both, or_first, or_later, same_text_is, same_text_refl}
-use Rattle.slices.specs.Slicing.{is_among, names_among, names_at, is_open_in, is_passed, CoversUrgent, AreUrgents, AreUrgentsFor}
+use Rattle.slices.proofs.Words.{◌≡◌, ℕ, Bool, true, false, ◌&&◌, not, List, [], ◌∷◌, map, filter, refl, ap, sym, ◌∙◌, ◌||◌, find, Option, Some, None, is_some, list_any, same_text, Tables, OrderRow, UrgentRow, Entries, orders_at, holds, OrderKey, same_order, order_key, UrgentKey, same_urgent, urgent_key, AreRows, no_two, and_both, or_first, or_later, same_text_is, same_text_refl, is_among, names_among, names_at, is_open_in, is_passed, CoversUrgent, AreUrgents, AreUrgentsFor}
 use Rattle.slices.proofs.Counted.{any_mapped}
 use Rattle.slices.proofs.KnownOrders.{has_line_of, some_passes, not_found}
 use Rattle.slices.proofs.OwnRows.{own_any, any_kept}

@@ -7,8 +7,8 @@ use Rattle.commands.specs.declared.names.Added.TheVariants.{Item, Bin}
 use Rattle.commands.specs.Names.{names_of}
 use Rattle.commands.specs.declared.limits.TheConstants.{ITEMS_MAX, BINS_MAX}
 use Rattle.row_rules.specs.declared.slice.Put.{Put}
-use Rattle.slice_lists.specs.Parts.{is_among}
-use Rattle.known_reads.specs.Reading.{IsCount}
+use Rattle.rows_in_memory.specs.Parts.{is_among}
+use Rattle.slices.specs.Reading.{IsCount}
 use Rattle.slices.specs.declared.knowing.Bounds.{Bounds}
 
 -- there are no more rows than this: each has one of so many keys

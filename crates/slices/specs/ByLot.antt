@@ -4,7 +4,7 @@ use Rattle.values.specs.declared.lot.LotId.{LotId}
 use Rattle.commands.specs.Tables.{Tables}
 use Rattle.commands.specs.declared.rows.LotRow.{LotRow}
 use Rattle.commands.specs.declared.rows.StockRow.{StockRow}
-use Rattle.known_reads.specs.Reading.{Each}
+use Rattle.slices.specs.Reading.{Each}
 use Rattle.table_words.specs.Found.{AreRows}
 use Rattle.table_words.specs.Typed.{same_lot_id, LotKey, same_lot, lot_key, StockKey, same_stock, stock_key}
 

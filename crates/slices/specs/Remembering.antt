@@ -8,12 +8,12 @@ use Rattle.commands.specs.declared.rows.ItemRow.{ItemRow}
 use Rattle.commands.specs.declared.rows.LeastRow.{LeastRow}
 use Rattle.commands.specs.declared.rows.RecallRow.{RecallRow}
 use Rattle.row_rules.specs.declared.slice.Put.{Put}
-use Rattle.goods_tables.specs.Bins.{AreBinsOf}
-use Rattle.goods_tables.specs.Items.{AreItemsOf}
-use Rattle.goods_tables.specs.Least.{AreLeastOf}
-use Rattle.goods_tables.specs.Recalls.{AreRecallsOf}
-use Rattle.known_rows.specs.KnownRows.{RowMap, KnowsNone, ForgetsBy, Remembers}
-use Rattle.known_reads.specs.Reading.{Knowing}
+use Rattle.tables.specs.Bins.{AreBinsOf}
+use Rattle.tables.specs.Items.{AreItemsOf}
+use Rattle.tables.specs.Least.{AreLeastOf}
+use Rattle.tables.specs.Recalls.{AreRecallsOf}
+use Rattle.rows_in_memory.specs.KnownRows.{RowMap, KnowsNone, ForgetsBy, Remembers}
+use Rattle.slices.specs.Reading.{Knowing}
 use Rattle.slices.specs.Following.{KnowsFollowed, KnowsNoneFollowed}
 use Rattle.slices.specs.declared.rows_known.RowsKnown.{RowsKnown}
 

@@ -4,6 +4,7 @@ use Rattle.values.specs.Values.{same_text}
 use Rattle.values.specs.declared.lot.LotId.{LotId}
 use Rattle.commands.specs.Names.{names_of}
 use Rattle.commands.specs.Tables.{Tables}
+use Rattle.commands.specs.declared.key.Key.{Key}
 use Rattle.commands.specs.declared.command.Command.{Command}
 use Rattle.commands.specs.declared.command.Command.TheVariants.{Pick, Ship}
 use Rattle.commands.specs.declared.command.Picking.{Picking}
@@ -22,19 +23,22 @@ use Rattle.commands.specs.declared.rows.StagedRow.{StagedRow}
 use Rattle.commands.specs.declared.rows.ReservedRow.{ReservedRow}
 use Rattle.table_words.specs.Found.{AreRows, only_if}
 use Rattle.table_words.specs.Typed.{same_lot_id, ItemKey, same_item, item_key, LeastKey, same_least, least_key, BinKey, same_bin, bin_key, LotKey, same_lot, lot_key, RecallKey, same_recall, recall_key, StockKey, same_stock, stock_key, OrderKey, same_order, order_key, is_open_order, UrgentKey, same_urgent, urgent_key, LineKey, same_line, line_key, StagedKey, same_staged, staged_key, ReservedKey, same_reserved, reserved_key}
-use Rattle.goods_tables.specs.Least.{is_asking}
-use Rattle.open_orders.specs.OpenLines.{Entries, orders_at, holds, are_apart, Gains, has_line_row}
-use Rattle.rules.specs.Slices.{counts_items, counts_bins}
+use Rattle.tables.specs.Least.{is_asking}
+use Rattle.rows_in_memory.specs.OpenLines.{Entries, orders_at, holds, are_apart, Gains, has_line_row}
+use Rattle.machine.specs.Acts.{Act}
+use Rattle.machine.specs.Once.{IsHistory}
+use Rattle.machine.specs.Tables.{tables_of}
+use Rattle.rules.specs.Slices.{IsSlice, counts_items, counts_bins}
 use Rattle.row_rules.specs.declared.slice.Rows.{Rows}
 use Rattle.row_rules.specs.declared.slice.Put.{Put}
 use Rattle.row_rules.specs.declared.slice.Slice.{Slice}
 use Rattle.slices.specs.Bounding.{IsToldNumber, AreBounds}
-use Rattle.slices.specs.Remembering.{KnowsRows, KnowsNoRows}
+use Rattle.slices.specs.Remembering.{KnowsRows}
 use Rattle.slices.specs.declared.knowing.Bounds.{Bounds}
 use Rattle.slices.specs.declared.knowing.Known.{Known}
-pub use Rattle.known_reads.specs.Reading.{Each}
+pub use Rattle.slices.specs.Reading.{Each}
 use Rattle.slices.specs.ByLot.{AreLotsOf, AreStockOf}
-pub use Rattle.slice_lists.specs.Parts.{is_among, with_name, with_names, with_some, items_named, lots_named, orders_named, bins_named, whole_orders, held_lots, lots_on_stage, others, other_names, has_line_in, with_lines, has_urgent_row, urgent_lines, names_among, is_ending, not_recalled, items_of_lots, with_staged}
+pub use Rattle.rows_in_memory.specs.Parts.{is_among, with_name, with_names, with_some, items_named, lots_named, orders_named, bins_named, whole_orders, held_lots, lots_on_stage, others, other_names, has_line_in, with_lines, has_urgent_row, urgent_lines, names_among, is_ending, not_recalled, items_of_lots, with_staged}
 
 -- the row passes
 abbrev pub is_passed : {R : Type 0} → (R → Bool) → Option R → Bool
@@ -230,12 +234,6 @@ pub record Knows (puts : Put) (t : Tables) (known : Known) : Type 0 where
   pub lines : (g o : List ℕ) → comes puts t g o ≡ true → holds known.lines g o ≡ true
   pub urgent : (g o : List ℕ) → comes puts t g o ≡ true → is_some (t.urgent o) || has_urgent_row puts.urgents o ≡ true → holds known.urgent g o ≡ true
 
--- what is known first: those, and no number and no row
-pub record IsFirstKnown (t : Tables) (known : Known) : Type 0 where
-  pub lines : AreOpenLines t known.lines known.urgent
-  pub bounds : known.bounds ≡ record { items = ITEMS_MAX; bins = BINS_MAX }
-  pub rows : KnowsNoRows known.rows
-
 -- what is known of the books is so
 pub record HoldsOf (known : Known) (t : Tables) : Type 0 where
   pub lines : Covers known.lines t
@@ -328,6 +326,12 @@ abbrev pub AreSliced : Known → Command → Tables → Rows → Type 0
 AreSliced known (Ship order) t rows = AreShipped order t rows
 AreSliced known (Pick p) t rows = ArePicked p t rows
 AreSliced known command t rows = ArePlanned known command t rows
+
+-- on the tables of a history it is the slice of the command, under whatever key
+abbrev pub IsSliceOf : Command → Tables → Slice → Type 0
+IsSliceOf command t s =
+    (first : ℤ) (acts : List Act) (key : Key) → IsHistory first acts → t ≡ tables_of first acts
+    → IsSlice first (record { key = key; command = command }) acts (tables_of first acts) s
 
 -- the slice of a command, as it is read
 pub record IsSliceIn (known : Known) (command : Command) (t : Tables) (s : Slice) : Type 0 where

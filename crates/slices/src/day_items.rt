@@ -3,22 +3,22 @@
 
 ghost use Rattle.std.specs.Prelude.{◌≡◌};
 ghost use Rattle.sqlite.specs.Held.{state};
-ghost use Rattle.known_reads.specs.Reading.{IsRead};
+ghost use Rattle.slices.specs.Reading.{IsRead};
 ghost use Rattle.slices.specs.Slicing.{AreEnding, AreAffected};
 
 use crate::one_table::meta_row;
 use crate::sought_rows::{read_rows, seek_all};
 use commands::LotRow;
-use goods_tables::least::{Asking, Least};
-use goods_tables::lots::Lots;
-use goods_tables::recalls::Recalls;
 use keyed_rows::reading::All;
 use label::BusinessDay;
-use order_tables::staged::Staged;
-use slice_lists::day_opening::{ending_lots, items_affected, items_of_lots, not_recalled};
+use rows_in_memory::day_opening::{ending_lots, items_affected, items_of_lots, not_recalled};
 use sqlite::{Alter, Transaction};
 use std::alloc::Global;
 use table_words::error::TableFault;
+use tables::least::{Asking, Least};
+use tables::lots::Lots;
+use tables::recalls::Recalls;
+use tables::staged::Staged;
 use values::Gtin;
 
 /// The lots that end between the days, by what their items ask for, and are not recalled.

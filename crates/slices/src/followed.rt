@@ -1,12 +1,11 @@
 //! Rows that are known, and that follow what is written.
 
 ghost use Rattle.std.specs.Prelude.{◌≡◌, Some};
-ghost use Rattle.slices.specs.Following.{KnowsNoneFollowed, StockFollows, StagedChanges, StagedFollows, ReservedFollows, Follows};
+ghost use Rattle.slices.specs.Following.{KnowsNoneFollowed, StockFollows, StagedChanges, StageGone, StageLeft, StagedFollows, StageForgotten, StagedForFollows, ReservedFollows, ReservedForFollows, Follows};
 
 use commands::{LineRow, LotRow, MetaRow, OrderRow, ReservedRow, StagedRow, StockRow, UrgentRow};
-use known_rows::KnownRows;
+use rows_in_memory::{KnownRows, LineKey};
 use rules::{Change, Dropped, Put};
-use slice_lists::LineKey;
 use std::alloc::Global;
 use values::{Gtin, LotId, LotKey, Name, TextKey};
 
@@ -29,8 +28,12 @@ pub struct Followed {
     pub stock: KnownRows<Gtin, TextKey, StockRow>,
     /// What is staged, by the GTINs of its items.
     pub staged: KnownRows<Gtin, TextKey, StagedRow>,
+    /// What is staged, by the names of its orders.
+    pub staged_for: KnownRows<Name, TextKey, StagedRow>,
     /// What is reserved, by the GTINs of its items.
     pub reserved: KnownRows<Gtin, TextKey, ReservedRow>,
+    /// What is reserved, by the names of its orders.
+    pub reserved_for: KnownRows<Name, TextKey, ReservedRow>,
     /// The row of `meta`.
     pub meta: Option<MetaRow>,
 }
@@ -43,7 +46,7 @@ fn follow_stock(stock: &mut KnownRows<Gtin, TextKey, StockRow>, put: &Put, dropp
     stock.put_all(put.stock.as_slice());
 }
 
-/// With what a change drops and puts of what is staged, where it empties no stage.
+/// With what a change drops and puts of what is staged, but for a stage that it empties.
 fn change_staged(staged: &mut KnownRows<Gtin, TextKey, StagedRow>, put: &Put, dropped: &Dropped)
     ensures { StagedChanges put.now dropped.now staged.old.rows staged.new.rows }
 {
@@ -51,16 +54,65 @@ fn change_staged(staged: &mut KnownRows<Gtin, TextKey, StagedRow>, put: &Put, dr
     staged.put_all(put.staged.as_slice());
 }
 
-/// With what a change writes of what is staged. Where it empties the stage of an order, nothing is known any more.
-fn follow_staged(staged: &mut KnownRows<Gtin, TextKey, StagedRow>, put: &Put, dropped: &Dropped)
-    ensures { StagedFollows put.now dropped.now dropped.now.stage staged.old.rows staged.new.rows }
+/// Without what was staged for an order: what is known by the order tells these rows. Where nothing is, nothing is known of
+/// what is staged any more.
+fn empty_stage(
+    staged: &mut KnownRows<Gtin, TextKey, StagedRow>,
+    stages: &KnownRows<Name, TextKey, StagedRow>,
+    order: &Name,
+)
+    ensures { StageGone order.now stages.now.rows staged.old.rows staged.new.rows }
 {
-    match dropped.stage {
-        Some(_) => {
+    match stages.rows_of(order) {
+        Some(gone) => staged.drop_all(gone),
+        None => {
             *staged = KnownRows::new(staged.alloc);
         }
-        None => change_staged(staged, put, dropped),
     }
+}
+
+/// Without the stage that a change empties, if it empties one.
+fn leave_stage(
+    staged: &mut KnownRows<Gtin, TextKey, StagedRow>,
+    stages: &KnownRows<Name, TextKey, StagedRow>,
+    stage: Option<Name>,
+)
+    ensures { StageLeft stage stages.now.rows staged.old.rows staged.new.rows }
+{
+    if let Some(order) = stage {
+        empty_stage(staged, stages, &order);
+    }
+}
+
+/// With what a change writes of what is staged.
+fn follow_staged(
+    staged: &mut KnownRows<Gtin, TextKey, StagedRow>,
+    stages: &KnownRows<Name, TextKey, StagedRow>,
+    put: &Put,
+    dropped: &Dropped,
+)
+    ensures { StagedFollows put.now dropped.now stages.now.rows staged.old.rows staged.new.rows }
+{
+    leave_stage(staged, stages, dropped.stage);
+    change_staged(staged, put, dropped);
+}
+
+/// Nothing is known by the order whose stage a change empties, if it empties one.
+fn forget_stage(stages: &mut KnownRows<Name, TextKey, StagedRow>, stage: Option<Name>)
+    ensures { StageForgotten stage stages.old.rows stages.new.rows }
+{
+    if let Some(order) = stage {
+        stages.forget(&order);
+    }
+}
+
+/// With what a change writes of what is staged, by the order.
+fn follow_staged_for(stages: &mut KnownRows<Name, TextKey, StagedRow>, put: &Put, dropped: &Dropped)
+    ensures { StagedForFollows put.now dropped.now stages.old.rows stages.new.rows }
+{
+    forget_stage(stages, dropped.stage);
+    stages.drop_all(dropped.staged.as_slice());
+    stages.put_all(put.staged.as_slice());
 }
 
 /// With what a change drops and puts of what is reserved.
@@ -70,6 +122,18 @@ fn follow_reserved(
     dropped: &Dropped,
 )
     ensures { ReservedFollows put.now dropped.now reserved.old.rows reserved.new.rows }
+{
+    reserved.drop_all(dropped.reserved.as_slice());
+    reserved.put_all(put.reserved.as_slice());
+}
+
+/// With what a change drops and puts of what is reserved, by the order.
+fn follow_reserved_for(
+    reserved: &mut KnownRows<Name, TextKey, ReservedRow>,
+    put: &Put,
+    dropped: &Dropped,
+)
+    ensures { ReservedForFollows put.now dropped.now reserved.old.rows reserved.new.rows }
 {
     reserved.drop_all(dropped.reserved.as_slice());
     reserved.put_all(put.reserved.as_slice());
@@ -89,7 +153,9 @@ impl Followed {
             lines_at: KnownRows::new(alloc),
             stock: KnownRows::new(alloc),
             staged: KnownRows::new(alloc),
+            staged_for: KnownRows::new(alloc),
             reserved: KnownRows::new(alloc),
+            reserved_for: KnownRows::new(alloc),
             meta: None,
         }
     }
@@ -112,8 +178,15 @@ impl Followed {
         self.lines.put_all(change.put.lines.as_slice());
         self.lines_at.put_all(change.put.lines.as_slice());
         follow_stock(&mut self.stock, &change.put, &change.dropped);
-        follow_staged(&mut self.staged, &change.put, &change.dropped);
+        follow_staged(
+            &mut self.staged,
+            &self.staged_for,
+            &change.put,
+            &change.dropped,
+        );
+        follow_staged_for(&mut self.staged_for, &change.put, &change.dropped);
         follow_reserved(&mut self.reserved, &change.put, &change.dropped);
+        follow_reserved_for(&mut self.reserved_for, &change.put, &change.dropped);
         self.meta = Some(change.meta);
     }
 }

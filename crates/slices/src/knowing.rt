@@ -7,7 +7,7 @@ ghost use Rattle.slices.specs.Bounding.{IsRaised, with_counts};
 use crate::rows_known::RowsKnown;
 use commands::limits::{BINS_MAX, ITEMS_MAX};
 use commands::{Added, Command};
-use open_orders::OpenLines;
+use rows_in_memory::OpenLines;
 use rules::Put;
 
 /// No fewer than the items of the books, and than their bins. A number that is not below the limit tells nothing.

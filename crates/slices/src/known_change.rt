@@ -1,34 +1,31 @@
 //! What is known of the books, with what a change brings.
 
-ghost use Rattle.std.specs.Prelude.{◌≡◌, ℤ, List, OnOk, OnErr, IfOk, IfErr, IsTrue};
-ghost use Rattle.sqlite.specs.State.{HasCleanDisk, Survives, KeepsCommit, IsUnchanged};
+ghost use Rattle.std.specs.Prelude.{◌≡◌, OnOk, OnErr, IfOk, IsTrue};
+ghost use Rattle.sqlite.specs.State.{HasCleanDisk};
 ghost use Rattle.sqlite.specs.Held.{state};
 ghost use Rattle.table_words.specs.Steps.{IsReady};
 ghost use Rattle.table_words.specs.Typed.{tables_in};
-ghost use Rattle.table_words.specs.declared.error.TableFault.TheVariants.{Foreign};
-ghost use Rattle.open_orders.specs.OpenLines.{Gains, Keeps, has_line_row};
-ghost use Rattle.machine.specs.Acts.{Act};
-ghost use Rattle.slices.specs.Books.{IsBooksOf};
+ghost use Rattle.rows_in_memory.specs.OpenLines.{Gains, Keeps, has_line_row};
 ghost use Rattle.slices.specs.Bounding.{IsRaised};
-ghost use Rattle.known_reads.specs.Reading.{IsRead, Knowing};
+ghost use Rattle.slices.specs.Reading.{IsRead, Knowing};
 ghost use Rattle.slices.specs.Following.{KnowsLines, KnowsUrgents, KnowsFollowed, KnowsNoneFollowed};
 ghost use Rattle.slices.specs.Remembering.{ForgetsPut};
-ghost use Rattle.slice_lists.specs.Parts.{urgent_lines as urgent_lines_lem};
+ghost use Rattle.rows_in_memory.specs.Parts.{urgent_lines as urgent_lines_lem};
 ghost use Rattle.slices.specs.Slicing.{Knows, opened_by, AreLinesPut, AreUrgentsPut};
 
 use crate::followed::Followed;
 use crate::knowing::Known;
+use crate::seek_all_known;
 use commands::{LineRow, UrgentRow};
-use known_reads::seek_all_known;
-use known_rows::KnownRows;
-use order_tables::lines::Lines;
-use order_tables::urgents::Urgents;
+use rows_in_memory::KnownRows;
+use rows_in_memory::order_names::{open_rows, orders_of, orders_of_lines, other_names};
+use rows_in_memory::urgent_rows::{urgent_lines, urgent_names};
 use rules::Put;
-use slice_lists::order_names::{open_rows, orders_of, orders_of_lines, other_names};
-use slice_lists::urgent_rows::{urgent_lines, urgent_names};
 use sqlite::{Alter, Transaction};
 use std::alloc::{AllocError, Global};
 use table_words::error::TableFault;
+use tables::lines::Lines;
+use tables::urgents::Urgents;
 use values::{Name, TextKey};
 
 /// The orders that the change opens, and those that it puts as urgent ones.
@@ -148,16 +145,7 @@ impl Known {
         ensures forgets { ForgetsPut put.now self.old.rows self.new.rows }
         ensures followed { HasCleanDisk (state S.Store tx.new.conn.now) → IsReady (state S.Store tx.old.conn.now).now → IsTrue (state S.Store tx.old.conn.now).is_open
             → KnowsFollowed (tables_in (state S.Store tx.old.conn.now).now.trees) self.old.rows.followed → KnowsFollowed (tables_in (state S.Store tx.old.conn.now).now.trees) self.new.rows.followed }
-        ensures known { HasCleanDisk (state S.Store tx.new.conn.now) → IsReady (state S.Store tx.old.conn.now).now → IsTrue (state S.Store tx.old.conn.now).is_open
-            → KnowsFollowed (tables_in (state S.Store tx.old.conn.now).now.trees) self.old.rows.followed → OnOk result (Knows put.now (tables_in (state S.Store tx.old.conn.now).now.trees) self.new) }
-        ensures fault { HasCleanDisk (state S.Store tx.new.conn.now) → IsTrue (state S.Store tx.old.conn.now).is_open
-            → (first : ℤ) (acts : List Act) → IsBooksOf first acts (state S.Store tx.old.conn.now).now
-            → IfErr result (λ e. e ≡ Foreign → ⊥) }
-        ensures same { HasCleanDisk (state S.Store tx.new.conn.now) → IsReady (state S.Store tx.old.conn.now).now → IsTrue (state S.Store tx.old.conn.now).is_open
-            → OnOk result (IsUnchanged (state S.Store tx.old.conn.now) (state S.Store tx.new.conn.now)) }
-        ensures kept { HasCleanDisk (state S.Store tx.new.conn.now) → IsReady (state S.Store tx.old.conn.now).now → IsTrue (state S.Store tx.old.conn.now).is_open
-            → KeepsCommit (state S.Store tx.old.conn.now) (state S.Store tx.new.conn.now) }
-        ensures survives { Survives (state S.Store tx.old.conn.now) (state S.Store tx.new.conn.now) (λ _. ⊥) }
+        ensures read { IsRead (λ t _. KnowsFollowed t self.old.rows.followed → Knows put.now t self.new) (state S.Store tx.old.conn.now) (state S.Store tx.new.conn.now) result }
     {
         self.bounds = self.bounds.raised(put);
         self.rows.forget_put(put);

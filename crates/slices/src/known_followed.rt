@@ -3,25 +3,25 @@
 ghost use Rattle.std.specs.Prelude.{◌≡◌, Some, filter, IfOk};
 ghost use Rattle.sqlite.specs.Held.{state};
 ghost use Rattle.table_words.specs.Typed.{same_lot_id};
-ghost use Rattle.goods_tables.specs.Stock.{AreStockOf, AreStockOfLot};
-ghost use Rattle.order_tables.specs.Reserved.{AreReservedOf, AreReservedOfItem};
-ghost use Rattle.order_tables.specs.Staged.{AreStagedOf};
-ghost use Rattle.known_reads.specs.Reading.{Each, IsRead};
+ghost use Rattle.tables.specs.Stock.{AreStockOf, AreStockOfLot};
+ghost use Rattle.tables.specs.Reserved.{AreReservedOf, AreReservedOfItem, AreReservedOfOrder};
+ghost use Rattle.tables.specs.Staged.{AreStagedOf, AreStagedOfOrder};
+ghost use Rattle.slices.specs.Reading.{Each, IsRead};
 ghost use Rattle.slices.specs.Remembering.{Learning};
 ghost use Rattle.slices.specs.Slicing.{AreStaged};
 
 use crate::one_table::meta_row;
 use crate::rows_known::RowsKnown;
 use crate::sought_rows::read_rows;
+use crate::{seek_all_known, seek_known};
 use commands::{MetaRow, ReservedRow, StagedRow, StockRow};
-use goods_tables::stock::Stock;
-use known_reads::seek_all_known;
-use order_tables::reserved::Reserved;
-use order_tables::staged::Staged;
 use row_rules::row_search::rows_with;
 use sqlite::{Alter, Transaction};
 use std::alloc::{AllocError, Global};
 use table_words::error::TableFault;
+use tables::reserved::Reserved;
+use tables::staged::Staged;
+use tables::stock::Stock;
 use values::{Gtin, LotId, Name, TextKey};
 
 /// The stock of items, one after another.
@@ -98,21 +98,32 @@ pub fn seek_staged<S: Alter>(
     seek_all_known::<Staged, Gtin, TextKey, S>(alloc, tx, &mut rows.followed.staged, gtins)
 }
 
-/// What is staged of a lot for an order: what is staged of its item has it, where that is known.
+/// What is staged for an order.
+pub fn seek_staged_for<S: Alter>(
+    alloc: Global,
+    tx: &mut Transaction<'_, S>,
+    rows: &mut RowsKnown,
+    order: &Name,
+) -> Result<Vec<StagedRow>, TableFault>
+    ensures same_reference { tx.new.conn.ghost_name ≡ tx.old.conn.ghost_name }
+    ensures read { IsRead (Learning rows.old rows.new (λ t found. AreStagedOfOrder order.now t found.items)) (state S.Store tx.old.conn.now) (state S.Store tx.new.conn.now) result }
+{
+    seek_known::<Staged, Name, TextKey, S>(alloc, tx, &mut rows.followed.staged_for, order)
+}
+
+/// What is staged of a lot for an order, among all that is staged for the order.
 pub fn seek_staged_of<S: Alter>(
     alloc: Global,
     tx: &mut Transaction<'_, S>,
-    rows: &RowsKnown,
+    rows: &mut RowsKnown,
     key: &(Name, LotId),
 ) -> Result<Vec<StagedRow>, TableFault>
     ensures same_reference { tx.new.conn.ghost_name ≡ tx.old.conn.ghost_name }
-    ensures read { IsRead (Learning rows.now rows.now (λ t found. AreStagedOf key.now t found.items)) (state S.Store tx.old.conn.now) (state S.Store tx.new.conn.now) result }
+    ensures read { IsRead (Learning rows.old rows.new (λ t found. AreStagedOf key.now t found.items)) (state S.Store tx.old.conn.now) (state S.Store tx.new.conn.now) result }
 {
-    if let Some(known) = rows.followed.staged.rows_of(&key.1.gtin) {
-        let own = rows_with(alloc, known, key)?;
-        return Ok(own);
-    }
-    read_rows::<Staged, (Name, LotId), S>(alloc, tx, key)
+    let stage = seek_staged_for(alloc, tx, rows, &key.0)?;
+    let own = rows_with(alloc, stage.as_slice(), key)?;
+    Ok(own)
 }
 
 /// What is reserved of items, one after another.
@@ -128,21 +139,32 @@ pub fn seek_reserved<S: Alter>(
     seek_all_known::<Reserved, Gtin, TextKey, S>(alloc, tx, &mut rows.followed.reserved, gtins)
 }
 
-/// What is reserved of a lot for an order: what is reserved of its item has it, where that is known.
+/// What is reserved for an order.
+pub fn seek_reserved_for<S: Alter>(
+    alloc: Global,
+    tx: &mut Transaction<'_, S>,
+    rows: &mut RowsKnown,
+    order: &Name,
+) -> Result<Vec<ReservedRow>, TableFault>
+    ensures same_reference { tx.new.conn.ghost_name ≡ tx.old.conn.ghost_name }
+    ensures read { IsRead (Learning rows.old rows.new (λ t found. AreReservedOfOrder order.now t found.items)) (state S.Store tx.old.conn.now) (state S.Store tx.new.conn.now) result }
+{
+    seek_known::<Reserved, Name, TextKey, S>(alloc, tx, &mut rows.followed.reserved_for, order)
+}
+
+/// What is reserved of a lot for an order, among all that is reserved for the order.
 pub fn seek_reserved_of<S: Alter>(
     alloc: Global,
     tx: &mut Transaction<'_, S>,
-    rows: &RowsKnown,
+    rows: &mut RowsKnown,
     key: &(Name, LotId),
 ) -> Result<Vec<ReservedRow>, TableFault>
     ensures same_reference { tx.new.conn.ghost_name ≡ tx.old.conn.ghost_name }
-    ensures read { IsRead (Learning rows.now rows.now (λ t found. AreReservedOf key.now t found.items)) (state S.Store tx.old.conn.now) (state S.Store tx.new.conn.now) result }
+    ensures read { IsRead (Learning rows.old rows.new (λ t found. AreReservedOf key.now t found.items)) (state S.Store tx.old.conn.now) (state S.Store tx.new.conn.now) result }
 {
-    if let Some(known) = rows.followed.reserved.rows_of(&key.1.gtin) {
-        let own = rows_with(alloc, known, key)?;
-        return Ok(own);
-    }
-    read_rows::<Reserved, (Name, LotId), S>(alloc, tx, key)
+    let reserved = seek_reserved_for(alloc, tx, rows, &key.0)?;
+    let own = rows_with(alloc, reserved.as_slice(), key)?;
+    Ok(own)
 }
 
 /// The row of `meta`; `Foreign` also where there is none.

@@ -2,27 +2,27 @@
 
 ghost use Rattle.std.specs.Prelude.{◌≡◌};
 ghost use Rattle.sqlite.specs.Held.{state};
-ghost use Rattle.goods_tables.specs.Bins.{AreBinsOf};
-ghost use Rattle.goods_tables.specs.Items.{AreItemsOf};
-ghost use Rattle.goods_tables.specs.Least.{AreLeastOf};
-ghost use Rattle.goods_tables.specs.Lots.{AreLotOf, AreLotsOf as AreLotsOfItem};
-ghost use Rattle.goods_tables.specs.Recalls.{AreRecallsOf};
-ghost use Rattle.known_reads.specs.Reading.{Each, IsRead};
+ghost use Rattle.tables.specs.Bins.{AreBinsOf};
+ghost use Rattle.tables.specs.Items.{AreItemsOf};
+ghost use Rattle.tables.specs.Least.{AreLeastOf};
+ghost use Rattle.tables.specs.Lots.{AreLotOf, AreLotsOf as AreLotsOfItem};
+ghost use Rattle.tables.specs.Recalls.{AreRecallsOf};
+ghost use Rattle.slices.specs.Reading.{Each, IsRead};
 ghost use Rattle.slices.specs.ByLot.{AreLotsOf};
 ghost use Rattle.slices.specs.Remembering.{Learning};
 ghost use Rattle.slices.specs.Slicing.{AreBins, AreLeast};
 
 use crate::rows_known::RowsKnown;
+use crate::{seek_all_known, seek_known};
 use commands::{BinRow, ItemRow, LeastRow, LotRow, RecallRow};
-use goods_tables::bins::Bins;
-use goods_tables::items::Items;
-use goods_tables::least::Least;
-use goods_tables::lots::Lots;
-use goods_tables::recalls::Recalls;
-use known_reads::{seek_all_known, seek_known};
 use sqlite::{Alter, Transaction};
 use std::alloc::Global;
 use table_words::error::TableFault;
+use tables::bins::Bins;
+use tables::items::Items;
+use tables::least::Least;
+use tables::lots::Lots;
+use tables::recalls::Recalls;
 use values::{Gtin, LotId, LotKey, Name, TextKey};
 
 /// The row of an item.

@@ -2,22 +2,22 @@
 
 ghost use Rattle.std.specs.Prelude.{◌≡◌};
 ghost use Rattle.sqlite.specs.Held.{state};
-ghost use Rattle.order_tables.specs.Lines.{AreLineOf};
-ghost use Rattle.order_tables.specs.Orders.{AreOrdersOf};
-ghost use Rattle.known_reads.specs.Reading.{IsRead};
+ghost use Rattle.tables.specs.Lines.{AreLineOf};
+ghost use Rattle.tables.specs.Orders.{AreOrdersOf};
+ghost use Rattle.slices.specs.Reading.{IsRead};
 ghost use Rattle.slices.specs.Remembering.{Learning};
 ghost use Rattle.slices.specs.Slicing.{AreAllLines, AreOrders, AreUrgents};
 
 use crate::rows_known::RowsKnown;
+use crate::{seek_all_known, seek_known};
 use commands::{LineRow, OrderRow, UrgentRow};
-use known_reads::{seek_all_known, seek_known};
-use order_tables::lines::Lines;
-use order_tables::orders::Orders;
-use order_tables::urgents::Urgents;
-use slice_lists::LineKey;
+use rows_in_memory::LineKey;
 use sqlite::{Alter, Transaction};
 use std::alloc::Global;
 use table_words::error::TableFault;
+use tables::lines::Lines;
+use tables::orders::Orders;
+use tables::urgents::Urgents;
 use values::{Gtin, Name, TextKey};
 
 /// The row of an order.

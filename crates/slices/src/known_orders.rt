@@ -2,7 +2,7 @@
 
 ghost use Rattle.std.specs.Prelude.{◌≡◌};
 ghost use Rattle.sqlite.specs.Held.{state};
-ghost use Rattle.known_reads.specs.Reading.{IsRead};
+ghost use Rattle.slices.specs.Reading.{IsRead};
 ghost use Rattle.slices.specs.Remembering.{Learning};
 ghost use Rattle.slices.specs.Slicing.{AreLinesFor, AreLinesOfItem, AreLinesOfItems, AreKnown, AreKnownOrders};
 
@@ -10,8 +10,8 @@ use crate::known_lists::{seek_line, seek_orders};
 use crate::order_slices::{add_line, read_named};
 use crate::rows_known::RowsKnown;
 use commands::{LineRow, OrderRow};
-use open_orders::OpenLines;
-use slice_lists::order_names::{orders_of_lines, other_names};
+use rows_in_memory::OpenLines;
+use rows_in_memory::order_names::{orders_of_lines, other_names};
 use sqlite::{Alter, Transaction};
 use std::alloc::Global;
 use table_words::error::TableFault;

@@ -1,4 +1,4 @@
-//! The rows that a command is decided by, read from the tables by seeks.
+//! The rows that a command is decided by, read by seeks, from memory where they are known.
 #![tactic(auto)]
 
 mod day_items;
@@ -17,13 +17,15 @@ mod rows_known;
 mod shipments;
 mod slice_rows;
 mod slices;
+mod sought;
 mod sought_rows;
 mod urgent_orders;
 
 pub use followed::Followed;
 pub use knowing::{Bounds, Known};
 pub use known_followed::{
-    known_meta, seek_reserved, seek_staged, seek_stock, seek_stock_of, seek_stock_of_lots,
+    known_meta, seek_reserved, seek_reserved_for, seek_staged, seek_staged_for, seek_stock,
+    seek_stock_of, seek_stock_of_lots,
 };
 pub use known_goods::{
     seek_bin, seek_bins, seek_item, seek_items, seek_least, seek_least_of, seek_lot, seek_lots,
@@ -35,5 +37,6 @@ pub use one_table::{line_row, meta_row};
 pub use order_slices::add_line;
 pub use rows_known::RowsKnown;
 pub use slices::read_slice;
+pub use sought::{seek_all_known, seek_known};
 pub use sought_rows::{read_row, read_rows, seek_all, seek_both};
 pub use urgent_orders::read_urgents;

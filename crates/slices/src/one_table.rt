@@ -5,19 +5,19 @@ ghost use Rattle.sqlite.specs.Held.{state};
 ghost use Rattle.table_words.specs.Typed.{same_item, item_key, same_bin, bin_key};
 ghost use Rattle.commands.specs.declared.limits.TheConstants.{ITEMS_MAX, BINS_MAX};
 ghost use Rattle.slices.specs.Bounding.{IsToldNumber};
-ghost use Rattle.known_reads.specs.Reading.{IsCount, IsRead};
+ghost use Rattle.slices.specs.Reading.{IsCount, IsRead};
 
 use crate::sought_rows::{read_row, read_rows};
 use commands::limits::{BINS_MAX, ITEMS_MAX};
 use commands::{LineRow, MetaRow};
-use goods_tables::bins::Bins;
-use goods_tables::items::Items;
-use goods_tables::meta::meta_rows;
 use keyed_rows::reading::All;
-use order_tables::lines::Lines;
 use sqlite::{Alter, Transaction};
 use std::alloc::Global;
 use table_words::error::TableFault;
+use tables::bins::Bins;
+use tables::items::Items;
+use tables::lines::Lines;
+use tables::meta::meta_rows;
 use values::{Gtin, Name};
 
 /// The row of `meta`; `Foreign` also where there is none.

@@ -2,7 +2,7 @@
 
 ghost use Rattle.std.specs.Prelude.{◌≡◌};
 ghost use Rattle.sqlite.specs.Held.{state};
-ghost use Rattle.known_reads.specs.Reading.{IsRead};
+ghost use Rattle.slices.specs.Reading.{IsRead};
 ghost use Rattle.slices.specs.Remembering.{Learning};
 ghost use Rattle.slices.specs.Slicing.{AreGoodsIn, AreOrderOf, AreSharesOf, ArePicked};
 
@@ -69,12 +69,12 @@ fn read_order<S: Alter>(
 fn read_shares<S: Alter>(
     alloc: Global,
     tx: &mut Transaction<'_, S>,
-    rows: &RowsKnown,
+    rows: &mut RowsKnown,
     order: &Name,
     lot: &LotId,
 ) -> Result<Shares, TableFault>
     ensures same_reference { tx.new.conn.ghost_name ≡ tx.old.conn.ghost_name }
-    ensures read { IsRead (Learning rows.now rows.now (λ t shares. AreSharesOf order.now lot.now t shares.staged.items shares.reserved.items)) (state S.Store tx.old.conn.now) (state S.Store tx.new.conn.now) result }
+    ensures read { IsRead (Learning rows.old rows.new (λ t shares. AreSharesOf order.now lot.now t shares.staged.items shares.reserved.items)) (state S.Store tx.old.conn.now) (state S.Store tx.new.conn.now) result }
 {
     let key = (*order, *lot);
     let staged = seek_staged_of(alloc, tx, rows, &key)?;

@@ -5,7 +5,7 @@ ghost use Rattle.slices.specs.Remembering.{KnowsNoRows, ForgetsPut};
 
 use crate::followed::Followed;
 use commands::{BinRow, ItemRow, LeastRow, RecallRow};
-use known_rows::KnownRows;
+use rows_in_memory::KnownRows;
 use rules::Put;
 use std::alloc::Global;
 use values::{Gtin, Name, TextKey};

@@ -2,17 +2,17 @@
 
 ghost use Rattle.std.specs.Prelude.{◌≡◌};
 ghost use Rattle.sqlite.specs.Held.{state};
-ghost use Rattle.known_reads.specs.Reading.{IsRead};
+ghost use Rattle.slices.specs.Reading.{IsRead};
 ghost use Rattle.slices.specs.Remembering.{Learning};
 ghost use Rattle.slices.specs.Slicing.{AreShipped};
 
 use crate::known_followed::{seek_staged, seek_stock_of_lots};
 use crate::order_slices::read_named;
 use crate::rows_known::RowsKnown;
+use rows_in_memory::command_names::items_of_rows;
+use rows_in_memory::item_rows::of_shipment;
+use rows_in_memory::lots_held::lots_on_stage;
 use rules::Rows;
-use slice_lists::command_names::items_of_rows;
-use slice_lists::item_rows::of_shipment;
-use slice_lists::lots_held::lots_on_stage;
 use sqlite::{Alter, Transaction};
 use std::alloc::Global;
 use table_words::error::TableFault;

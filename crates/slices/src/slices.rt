@@ -1,23 +1,16 @@
 //! The slice of the tables that a command is decided by.
 
-ghost use Rattle.std.specs.Prelude.{◌≡◌, ◌&&◌, ℤ, List, Some, Err, OnOk, IfOk, IfErr, IsTrue};
-ghost use Rattle.sqlite.specs.State.{HasCleanDisk, Survives, KeepsCommit, IsUnchanged};
+ghost use Rattle.std.specs.Prelude.{◌≡◌, ◌&&◌, Some, Err, IfOk, IfErr, IsTrue};
+ghost use Rattle.sqlite.specs.State.{HasCleanDisk};
 ghost use Rattle.sqlite.specs.Held.{state};
 ghost use Rattle.table_words.specs.Steps.{IsReady};
-ghost use Rattle.table_words.specs.declared.error.TableFault.TheVariants.{Foreign};
-ghost use Rattle.commands.specs.declared.key.Key.{Key};
-ghost use Rattle.machine.specs.Acts.{Act};
-ghost use Rattle.machine.specs.Once.{IsHistory};
-ghost use Rattle.machine.specs.Tables.{tables_of};
-ghost use Rattle.rules.specs.Slices.{IsSlice};
-ghost use Rattle.slices.specs.Books.{IsBooksOf};
 ghost use Rattle.table_words.specs.Typed.{tables_in};
-ghost use Rattle.open_orders.specs.OpenLines.{Loses, has_closed_row, has_line_row};
-ghost use Rattle.known_reads.specs.Reading.{IsRead};
+ghost use Rattle.rows_in_memory.specs.OpenLines.{Loses, has_closed_row, has_line_row};
+ghost use Rattle.slices.specs.Reading.{IsRead};
 ghost use Rattle.slices.specs.Remembering.{Learning};
 ghost use Rattle.slices.specs.Bounding.{with_counts};
 ghost use Rattle.slices.specs.ByLot.{AreLotsOf};
-ghost use Rattle.slices.specs.Slicing.{AreGoods, AreKnownOrders, AreUrgentsFor, AreBins, AreCounts, AreTaken, AreTouched, ArePlanned, AreSliced, HoldsOf, IsSliceIn, orders_named, bins_named, with_names, held_lots};
+ghost use Rattle.slices.specs.Slicing.{AreGoods, AreKnownOrders, AreUrgentsFor, AreBins, AreCounts, AreTaken, AreTouched, ArePlanned, AreSliced, HoldsOf, IsSliceOf, IsSliceIn, orders_named, bins_named, with_names, held_lots};
 
 use crate::day_items::affected_items;
 use crate::knowing::{Bounds, Known};
@@ -32,14 +25,14 @@ use crate::shipments::read_shipment;
 use crate::slice_rows::{Goods, Ordered, Shares, rows_read};
 use crate::urgent_orders::read_urgents;
 use commands::{Added, BinRow, Command, LotRow, MetaRow, StagedRow, StockRow};
-use order_tables::staged::Staged;
+use rows_in_memory::command_names::{bins_with, items_with, named_orders, whole_orders};
+use rows_in_memory::lots_held::lots_held;
 use rules::{Rows, Slice};
-use slice_lists::command_names::{bins_with, items_with, named_orders, whole_orders};
-use slice_lists::lots_held::lots_held;
 use sqlite::{Alter, Transaction};
 use std::alloc::Global;
 use std::mem;
 use table_words::error::TableFault;
+use tables::staged::Staged;
 use values::{Gtin, Name};
 
 /// The items that the command names, and those of the lines of the order that it takes whole.
@@ -307,19 +300,9 @@ pub fn read_slice<S: Alter>(
     command: &Command,
 ) -> Result<Slice, TableFault>
     ensures same_reference { tx.new.conn.ghost_name ≡ tx.old.conn.ghost_name }
-    ensures read { HasCleanDisk (state S.Store tx.new.conn.now) → IsTrue (state S.Store tx.old.conn.now).is_open
-        → (first : ℤ) (acts : List Act) (key : Key) → IsHistory first acts → IsBooksOf first acts (state S.Store tx.old.conn.now).now → HoldsOf known.old (tables_in (state S.Store tx.old.conn.now).now.trees)
-        → IfOk result (IsSlice first (record { key = key; command = command.now }) acts (tables_of first acts)) }
+    ensures read { IsRead (λ t slice. HoldsOf known.old t → IsSliceOf command.now t slice) (state S.Store tx.old.conn.now) (state S.Store tx.new.conn.now) result }
     ensures holds { HasCleanDisk (state S.Store tx.new.conn.now) → IsReady (state S.Store tx.old.conn.now).now → IsTrue (state S.Store tx.old.conn.now).is_open
         → HoldsOf known.old (tables_in (state S.Store tx.old.conn.now).now.trees) → HoldsOf known.new (tables_in (state S.Store tx.old.conn.now).now.trees) }
-    ensures fault { HasCleanDisk (state S.Store tx.new.conn.now) → IsTrue (state S.Store tx.old.conn.now).is_open
-        → (first : ℤ) (acts : List Act) → IsBooksOf first acts (state S.Store tx.old.conn.now).now
-        → IfErr result (λ e. e ≡ Foreign → ⊥) }
-    ensures same { HasCleanDisk (state S.Store tx.new.conn.now) → IsReady (state S.Store tx.old.conn.now).now → IsTrue (state S.Store tx.old.conn.now).is_open
-        → OnOk result (IsUnchanged (state S.Store tx.old.conn.now) (state S.Store tx.new.conn.now)) }
-    ensures kept { HasCleanDisk (state S.Store tx.new.conn.now) → IsReady (state S.Store tx.old.conn.now).now → IsTrue (state S.Store tx.old.conn.now).is_open
-        → KeepsCommit (state S.Store tx.old.conn.now) (state S.Store tx.new.conn.now) }
-    ensures survives { Survives (state S.Store tx.old.conn.now) (state S.Store tx.new.conn.now) (λ _. ⊥) }
 {
     let mut rows = mem::replace(&mut known.rows, RowsKnown::new(alloc));
     let slice = slice_in(alloc, tx, known, &mut rows, command);

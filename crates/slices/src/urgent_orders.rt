@@ -2,15 +2,15 @@
 
 ghost use Rattle.std.specs.Prelude.{◌≡◌, IfOk};
 ghost use Rattle.sqlite.specs.Held.{state};
-ghost use Rattle.known_reads.specs.Reading.{IsRead};
+ghost use Rattle.slices.specs.Reading.{IsRead};
 ghost use Rattle.slices.specs.Remembering.{Learning};
 ghost use Rattle.slices.specs.Slicing.{names_at, AreUrgentsFor};
 
 use crate::known_lists::seek_urgents;
 use crate::rows_known::RowsKnown;
 use commands::{OrderRow, UrgentRow};
-use open_orders::OpenLines;
-use slice_lists::urgent_rows::names_among;
+use rows_in_memory::OpenLines;
+use rows_in_memory::urgent_rows::names_among;
 use sqlite::{Alter, Transaction};
 use std::alloc::{AllocError, Global};
 use table_words::error::TableFault;

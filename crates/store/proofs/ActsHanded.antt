@@ -1,23 +1,7 @@
 -- The rows of `repeats` in the books of a history.
-use Rattle.std.proofs.Common.{◌≡◌, ℕ, List, find, refl, ap, ◌∙◌, Some}
-use Rattle.std.specs.Prelude.{ℤ}
-use Rattle.std.specs.List.{AllByRecursion}
-use Rattle.values.specs.Values.{same_text}
-use Rattle.commands.specs.declared.rows.RepeatRow.{RepeatRow}
-use Rattle.sqlite.specs.State.{State}
-use Rattle.machine.specs.Acts.{Act}
-use Rattle.machine.specs.Tables.{Tables, tables_of, repeat_row}
-use Rattle.table_words.specs.Cells.{typed}
-use Rattle.table_words.specs.Typed.{tables_in}
-use Rattle.table_words.proofs.KeyLemmas.{itself_bytes, same_bytes}
-use Rattle.table_words.proofs.CellLemmas.{typed_some}
-use Rattle.history_tables.specs.Repeats.{repeats, repeats_laws}
-use Rattle.slices.specs.Books.{IsBooksOf}
-use Rattle.whole_tables.specs.declared.halves.Half.TheVariants.{Upper}
-use Rattle.whole_tables.specs.Halves.{is_in, half_of}
-use Rattle.whole_tables.specs.Whole.{AreAll, rows_of, typed_rows_of}
-use Rattle.whole_tables.proofs.Handing.{typed_are_all}
-use Rattle.whole_tables.proofs.Owned.{owned}
+use Rattle.store.proofs.Words.{◌≡◌, ℕ, List, find, refl, ap, ◌∙◌, Some, min, ℤ, pos, AllByRecursion, same_text, RepeatRow, State, Database, Act, tables_of, repeat_row, typed, tables_in, itself_bytes, same_bytes, typed_some, repeats, repeats_laws, IsBooksOf, stored_above, Upper, is_in, half_of, AreAll, typed_rows_of, typed_are_all, owned}
+use Rattle.machine.specs.Tables.{Tables}
+use Rattle.whole_tables.specs.Whole.{rows_of}
 
 module _ (first : ℤ) (acts : List Act) (s : State) (books : IsBooksOf first acts s.now) where
   abbrev pub act_rows : List RepeatRow
@@ -41,3 +25,9 @@ module _ (first : ℤ) (acts : List Act) (s : State) (books : IsBooksOf first ac
 
   pub act_rows_above_own : (rowid : ℤ) → AllByRecursion (λ (r : RepeatRow). repeat_row first acts r.k ≡ Some r) (act_rows_above rowid)
   act_rows_above_own rowid = typed_some (λ r. repeat_row first acts r.k ≡ Some r) repeats.is repeats.reads (is_in Upper rowid) (rows_of repeats s.now.trees) act_rows_own
+
+-- they are those of a state that has the same tables
+pub above_stored : (number : ℕ) (old mid : State) (rowid : ℤ) → rowid ≡ pos (min number 9_223_372_036_854_775_807) → mid.now ≡ old.now → typed repeats.is repeats.reads (half_of repeats Upper rowid mid.now.trees) ≡ stored_above number old
+above_stored number old mid rowid is same =
+    ap (λ z. typed repeats.is repeats.reads (half_of repeats Upper z mid.now.trees)) is
+    ∙ ap (λ (db : Database). typed repeats.is repeats.reads (half_of repeats Upper (pos (min number 9_223_372_036_854_775_807)) db.trees)) same

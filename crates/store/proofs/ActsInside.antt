@@ -1,32 +1,8 @@
 -- What an act comes to within its transaction: by its row of `repeats`, or by the decision and the rows written.
-use Rattle.std.proofs.Common.{◌≡◌, ℕ, inl, inr, true, false, List, Ok, Err, Result, OnOk, IfOk, IfErr, refl, sym, ap, subst, ◌∙◌, IsTrue}
-use Rattle.std.specs.Prelude.{ℤ, Option, Some, None, if◌then◌else◌}
-use Rattle.values.specs.Values.{same_text}
-use Rattle.commands.specs.Spelling.{key_text, spelling}
-use Rattle.commands.specs.Tables.{Tables}
-use Rattle.commands.specs.declared.refusal.Refusal.{Refusal}
-use Rattle.commands.specs.declared.refusal.Refusal.TheVariants.{KeyUsed}
-use Rattle.commands.specs.declared.rows.RepeatRow.{RepeatRow}
-use Rattle.sqlite.specs.Effect.{Database}
-use Rattle.sqlite.specs.State.{State, IsUnchanged}
-use Rattle.table_words.specs.Typed.{tables_in, AreTyped, with_repeat}
-use Rattle.table_words.specs.Steps.{IsReady, Goes}
-use Rattle.table_words.specs.declared.error.TableFault.{TableFault}
+use Rattle.store.proofs.Words.{◌≡◌, ℕ, inl, inr, true, false, List, Ok, Err, Result, refl, sym, ap, subst, ◌∙◌, IsTrue, ℤ, Option, Some, None, if◌then◌else◌, same_text, key_text, spelling, Tables, Refusal, KeyUsed, RepeatRow, Database, State, HasCleanDisk, IsUnchanged, tables_in, AreTyped, with_repeat, IsReady, Goes, TableFault, Writes, Act, bearer, outcome, acts_after, appended, judged, Outcome, Accepted, Repeated, reply, IsDecision, applied, tables_of, verdict, Change, change_written, change_is_applied, IsBooksOf, Reply, Fault, IsActedInside, IsDecidedByRows, repeat_of, answer_of, IsToldAgain, fault_of}
 use Rattle.table_words.specs.declared.error.TableFault.TheVariants as table
-use Rattle.machine.specs.Acts.{Act}
-use Rattle.machine.specs.Once.{bearer, outcome, acts_after, appended, judged, Outcome, Accepted, Repeated, Refused}
-use Rattle.machine.specs.Replies.{reply}
-use Rattle.rules.specs.Slices.{IsDecision, applied}
-use Rattle.machine.specs.Tables.{tables_of}
-use Rattle.machine.specs.Verdict.{verdict}
-use Rattle.row_rules.specs.declared.slice.Change.{Change}
-use Rattle.slices.specs.Books.{IsBooksOf}
-use Rattle.store.specs.declared.reply.Reply.{Reply}
-use Rattle.store.specs.declared.fault.Fault.{Fault}
+use Rattle.machine.specs.Once.{Refused}
 use Rattle.store.specs.declared.fault.Fault.TheVariants as fault
-use Rattle.store.specs.Acting.{IsActedInside, IsDecidedByRows}
-use Rattle.store.specs.Answers.{IsToldAgain}
-use Rattle.store.specs.Faults.{fault_of}
 use Rattle.store.proofs.RepeatTold.{key_is_new, new_key_is_judged, act_is_recorded, repeat_is_told}
 
 -- the same from the state that a read left as it was
@@ -37,10 +13,6 @@ goes_from f old mid last same goes = record {
   mode = goes.mode ∙ same.0.mode;
   typed = λ typed. goes.typed (subst (λ (db : Database). AreTyped db.trees) (sym same.0.now_is) typed);
 }
-
-pub goes_on_from : {X : Type 0} (f : Tables → Tables) (r : Result X Fault) (old mid last : State) → IsUnchanged old mid → OnOk r (Goes f mid last) → OnOk r (Goes f old last)
-goes_on_from f (Ok x) old mid last same goes = goes_from f old mid last same goes
-goes_on_from f (Err e) old mid last same goes = tt
 
 pub books_kept : (first : ℤ) (acts : List Act) (old mid : State) → IsUnchanged old mid → IsBooksOf first acts old.now → IsBooksOf first acts mid.now
 books_kept first acts old mid same books = subst (IsBooksOf first acts) (sym same.0.now_is) books
@@ -61,10 +33,6 @@ module _ (first : ℤ) (acts : List Act) (act : Act) where
   undecided_inside fault.Foreign old last fresh h = h
 
   -- a fault of the tables, where no row is foreign
-  pub fails_before : (cause : TableFault) → (cause ≡ table.Foreign → ⊥) → IsDecidedByRows first act acts (Err (fault_of cause))
-  fails_before (table.Store e) typed = tt
-  fails_before table.Foreign typed = typed refl
-
   pub fails_inside : (cause : TableFault) (old last : State) → (cause ≡ table.Foreign → ⊥) → IsActedInside first acts act (Err (fault_of cause)) old last
   fails_inside (table.Store e) old last typed = tt
   fails_inside table.Foreign old last typed = typed refl
@@ -74,17 +42,16 @@ module _ (first : ℤ) (acts : List Act) (act : Act) where
 
   module _ (change : Change) (old mid last : State) (up : IsTrue old.is_open) (books : IsBooksOf first acts old.now) (same : IsUnchanged old mid) (fresh : bearer act.key acts ≡ None) (decision : IsDecision first act acts (Ok change)) where
     -- a new command that is accepted, its change and its row of `repeats` written
-    accepted_anew : Goes (λ t. with_repeat (record { k = key_text act.key; act = change.meta.acts; spell = spelling act.command; reply = change.text }) (applied change t)) mid last
-        → IsActedInside first acts act (Ok (record { text = change.text; repeated = false })) old last
+    accepted_anew : Goes (λ t. with_repeat (repeat_of act.key act.command change) (change_written change t)) mid last → IsActedInside first acts act (Ok (record { text = change.text; repeated = false })) old last
     accepted_anew wrote =
-        let row : RepeatRow = record { k = key_text act.key; act = change.meta.acts; spell = spelling act.command; reply = change.text } in
+        let row : RepeatRow = repeat_of act.key act.command change in
         let out : outcome first acts act ≡ Accepted (reply first act acts) = new_key_is_judged first act acts fresh ∙ ap (judged first act acts) decision.0 in
-        let goes : Goes (λ t. with_repeat row (applied change t)) old last = goes_from (λ t. with_repeat row (applied change t)) old mid last same wrote in (
+        let goes : Goes (λ t. with_repeat row (change_written change t)) old last = goes_from (λ t. with_repeat row (change_written change t)) old mid last same wrote in (
           ap (λ t. Accepted t) decision.2 ∙ sym out,
           up,
           record {
             ready = goes.ready;
-            tables = goes.tables ∙ ap (λ t. with_repeat row (applied change t)) books.rows.tables
+            tables = goes.tables ∙ ap (λ t. with_repeat row t) (change_is_applied change (tables_in old.now.trees) decision.3) ∙ ap (λ t. with_repeat row (applied change t)) books.rows.tables
                 ∙ act_is_recorded first act acts change row decision.1 decision.2 refl
                 ∙ sym (ap (tables_of first) (after_outcome _ out));
             mode = goes.mode;
@@ -93,10 +60,10 @@ module _ (first : ℤ) (acts : List Act) (act : Act) where
         )
 
     -- the same of what the call that writes them answers
-    pub accepted_inside : (r : Result Reply Fault) → OnOk r (Goes (λ t. with_repeat (record { k = key_text act.key; act = change.meta.acts; spell = spelling act.command; reply = change.text }) (applied change t)) mid last)
-        → IfOk r (λ reply. reply ≡ record { text = change.text; repeated = false }) → IfErr r (λ e. e ≡ fault.Store) → IsActedInside first acts act r old last
-    accepted_inside (Ok reply) wrote told none = subst (λ (x : Reply). IsActedInside first acts act (Ok x) old last) (sym told) (accepted_anew wrote)
-    accepted_inside (Err why) wrote told fails = store_inside why old last fails
+    pub accepted_inside : (r : Result (Unit {0}) TableFault) → Writes (λ t. with_repeat (repeat_of act.key act.command change) (change_written change t)) mid last r → HasCleanDisk last → IsReady mid.now
+        → IsActedInside first acts act (answer_of change r) old last
+    accepted_inside (Ok done) writes clean ready = accepted_anew (writes.done clean ready)
+    accepted_inside (Err e) writes clean ready = fails_inside e old last writes.never_foreign
 
   -- the same from the state that a read left as it was
   pub inside_from : (r : Result Reply Fault) (old mid last : State) → IsUnchanged old mid → IsActedInside first acts act r mid last → IsActedInside first acts act r old last

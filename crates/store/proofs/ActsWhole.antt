@@ -1,27 +1,6 @@
 -- An act within a transaction, and then the transaction's end.
-use Rattle.std.proofs.Common.{◌≡◌, true, false, List, Ok, Err, Result, OnOk, refl, sym, ap, subst, ◌∙◌, IsTrue, arith}
-use Rattle.std.specs.Prelude.{ℤ}
-use Rattle.std.specs.Result.{IsOk}
-use Rattle.sqlite.specs.State.{State, HasCleanDisk, Shows, KeepsCommit, IsRolledBack, Survives}
-use Rattle.sqlite.specs.Steps.{FailsToCommit}
-use Rattle.sqlite.specs.Effect.{Database}
-use Rattle.sqlite.specs.Tree.{Trees}
+use Rattle.store.proofs.Words.{◌≡◌, true, false, List, Ok, Err, Result, OnOk, refl, sym, ap, subst, ◌∙◌, IsTrue, arith, ℤ, IsOk, State, HasCleanDisk, Shows, KeepsCommit, IsRolledBack, Survives, FailsToCommit, Database, Trees, Held, state, Error, IsReady, put_back, Ends, rolled_back, survives_of, ready_tells, Act, IsHistory, is_key_of, acts_after, Reply, Fault, Refused, Store, Foreign, IsBooksOf, AreBooks, KeepsBooks, LeavesOnly, IsActedOn, IsActedInside}
 use Rattle.sqlite.specs.Store.{Ghosts}
-use Rattle.sqlite.specs.Held.{Held, state}
-use Rattle.sqlite.specs.declared.error.Error.{Error}
-use Rattle.table_words.specs.Steps.{IsReady}
-use Rattle.table_words.proofs.CallLemmas.{put_back}
-use Rattle.books_schema.specs.Ending.{Ends}
-use Rattle.books_schema.proofs.EndLemmas.{rolled_back, survives_of}
-use Rattle.books_schema.proofs.OpenLemmas.{ready_tells}
-use Rattle.machine.specs.Acts.{Act}
-use Rattle.machine.specs.Once.{IsHistory, is_key_of, acts_after}
-use Rattle.store.specs.declared.reply.Reply.{Reply}
-use Rattle.store.specs.declared.fault.Fault.{Fault}
-use Rattle.store.specs.declared.fault.Fault.TheVariants.{Refused, Store, Foreign}
-use Rattle.slices.specs.Books.{IsBooksOf}
-use Rattle.store.specs.Books.{AreBooks, KeepsBooks, LeavesOnly}
-use Rattle.store.specs.Acting.{IsActedOn, IsActedInside}
 
 module _ (first : ℤ) (acts : List Act) (old begun : State) (is : begun ≡ record old { in_transaction = true }) (held : KeepsBooks first acts old) where
   was_open : IsTrue begun.is_open → IsTrue old.is_open

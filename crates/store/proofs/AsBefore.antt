@@ -1,8 +1,5 @@
 -- Calls that leave the tables as before, one after another.
-use Rattle.std.proofs.Common.{refl, sym, ◌∙◌}
-use Rattle.sqlite.specs.State.{State, KeepsCommit}
-use Rattle.table_words.proofs.CallLemmas.{kept_itself, kept_then}
-use Rattle.store.specs.Books.{IsSettled, IsAsBefore}
+use Rattle.store.proofs.Words.{refl, sym, ◌∙◌, State, KeepsCommit, kept_itself, kept_then, IsSettled, IsAsBefore}
 
 -- settled before and after, with nothing committed: it shows what it showed
 pub as_before : (old new : State) → IsSettled old → IsSettled new → KeepsCommit old new → IsAsBefore old new

@@ -1,22 +1,5 @@
 -- What books keep true of themselves: they are idle, and what they know of their tables is so.
-use Rattle.std.proofs.Common.{◌≡◌, List, Result, Ok, Err, false, ◌∙◌, arith}
-use Rattle.std.specs.Prelude.{ℤ, Option, None}
-use Rattle.commands.specs.declared.refusal.Refusal.{Refusal}
-use Rattle.sqlite.specs.Held.{Held, state}
-use Rattle.sqlite.specs.State.{State, HasCleanDisk, Survives}
-use Rattle.sqlite.specs.Tree.{Trees}
-use Rattle.sqlite_trees.specs.declared.store.Store.{Ghosts}
-use Rattle.machine.specs.Acts.{Act}
-use Rattle.machine.specs.Standing.{today}
-use Rattle.slices.specs.declared.knowing.Known.{Known}
-use Rattle.store.specs.Books.{KeepsBooks, IsSettled, IsAsBefore}
-use Rattle.store.specs.Connected.{Connected, IsIdle}
-use Rattle.store.specs.Knowing.{IsKnown}
-use Rattle.store.specs.Opening.{IsOpenedFrom}
-use Rattle.store.specs.Queries.{IsShown}
-use Rattle.store.specs.Showing.{IsShownOn}
-use Rattle.store.specs.declared.fault.Fault.{Fault}
-use Rattle.store.specs.declared.fault.Fault.TheVariants.{Refused, Store, Foreign}
+use Rattle.store.proofs.Words.{◌≡◌, List, Result, Ok, Err, false, ◌∙◌, arith, ℤ, Option, None, Refusal, Held, state, State, HasCleanDisk, Survives, Trees, Ghosts, Act, today, Known, KeepsBooks, IsSettled, IsAsBefore, Connected, IsIdle, IsKnown, IsOpenedFrom, IsShown, IsShownOn, Fault, Refused, Store, Foreign}
 use Rattle.store.proofs.AsBefore.{as_before}
 use Rattle.store.proofs.HandedOn.{Stays}
 use Rattle.store.proofs.KnownKept.{known_stays}

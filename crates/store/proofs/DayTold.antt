@@ -1,15 +1,5 @@
 -- The business day after an act.
-use Rattle.std.proofs.Common.{◌≡◌, ℕ, Bool, true, false, List, refl, ap, ◌∙◌}
-use Rattle.std.specs.Prelude.{ℤ, if◌then◌else◌}
-use Rattle.std.specs.Option.{unwrap_or}
-use Rattle.commands.specs.Names.{names_of}
-use Rattle.commands.specs.declared.command.Command.{Command}
-use Rattle.commands.specs.declared.command.Command.TheVariants.{OpenDay}
-use Rattle.machine.specs.Acts.{Act}
-use Rattle.machine.specs.Standing.{today, day_after_command}
-use Rattle.machine.specs.Once.{Repeated, Accepted, outcome, appended, acts_after}
-use Rattle.store.specs.Acting.{told, day_left}
-use Rattle.store.specs.declared.reply.Reply.{Reply}
+use Rattle.store.proofs.Words.{◌≡◌, ℕ, Bool, true, false, List, refl, ap, ◌∙◌, ℤ, if◌then◌else◌, unwrap_or, names_of, Command, OpenDay, Act, today, day_after_command, Repeated, Accepted, outcome, appended, acts_after, told, day_left, Reply}
 
 -- the day that a command opens is the one after it
 pub day_named : (command : Command) (day : ℤ) → unwrap_or (names_of command).day day ≡ day_after_command command day

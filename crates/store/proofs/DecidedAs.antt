@@ -1,16 +1,6 @@
 -- A decision told with the faults of the books.
-use Rattle.std.proofs.Common.{◌≡◌, ◌∙◌, List, Ok, Err, Result, ap, sym, subst}
-use Rattle.std.specs.Prelude.{ℤ}
-use Rattle.std.specs.Result.{MatchResult, IsErrAnd}
-use Rattle.std.proofs.lemmas.Result.{err_from_is_err_and}
-use Rattle.machine.specs.Acts.{Act}
-use Rattle.rules.specs.Slices.{IsDecision}
-use Rattle.row_rules.specs.declared.slice.RuleFault.{RuleFault}
-use Rattle.row_rules.specs.declared.slice.RuleFault.TheVariants.{Refused, NoMemory, Foreign}
-use Rattle.store.specs.Faults.{fault_of_rule}
-use Rattle.row_rules.specs.declared.slice.Change.{Change}
-use Rattle.store.specs.declared.fault.Fault.{Fault}
-use Rattle.store.specs.Acting.{IsDecidedByRows}
+use Rattle.store.proofs.Words.{◌≡◌, ◌∙◌, List, Ok, Err, Result, ap, sym, subst, ℤ, MatchResult, IsErrAnd, err_from_is_err_and, Act, IsDecision, RuleFault, NoMemory, fault_of_rule, Change, Fault, IsDecidedByRows}
+use Rattle.row_rules.specs.declared.slice.RuleFault.TheVariants.{Refused, Foreign}
 
 fault_told : (first : ℤ) (act : Act) (acts : List Act) (fault : RuleFault) → IsDecision first act acts (Err fault) → IsDecidedByRows first act acts (Err (fault_of_rule fault))
 fault_told first act acts (Refused why) h = h

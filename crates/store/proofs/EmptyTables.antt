@@ -1,19 +1,5 @@
 -- The tables of books in which nothing has been done.
-use Rattle.std.proofs.Common.{◌≡◌, ℕ, true, false, List, [], IsTrue, Result, Ok, Err, OnOk, inl, inr, refl, sym, ap, ◌∙◌}
-use Rattle.std.specs.Prelude.{◌⊎◌, ℤ, Some, None, option_map, if◌then◌else◌}
-use Rattle.values.specs.Values.{same_text}
-use Rattle.commands.specs.Tables.{Tables}
-use Rattle.commands.specs.declared.command.BinKind.TheVariants.{Hold}
-use Rattle.commands.specs.declared.rows.MetaRow.{MetaRow}
-use Rattle.commands.specs.declared.rows.BinRow.{BinRow}
-use Rattle.machine.specs.Standing.{RETURNS, returns_bin}
-use Rattle.machine.specs.Tables.{tables_of, bin_row}
-use Rattle.sqlite.specs.State.{State, Survives}
-use Rattle.sqlite.specs.Tree.{Trees}
-use Rattle.table_words.specs.Steps.{IsReady}
-use Rattle.table_words.specs.Typed.{tables_in, AreTyped}
-use Rattle.books_schema.specs.Creation.{first_rows}
-use Rattle.store.specs.Books.{AreRowsOf, KeepsBooks}
+use Rattle.store.proofs.Words.{◌≡◌, ℕ, true, false, List, [], IsTrue, Result, Ok, Err, OnOk, inl, inr, refl, sym, ap, ◌∙◌, ◌⊎◌, ℤ, Some, None, option_map, if◌then◌else◌, same_text, Tables, Hold, MetaRow, BinRow, RETURNS, returns_bin, tables_of, bin_row, State, Survives, Trees, IsReady, tables_in, AreTyped, first_rows, AreRowsOf, KeepsBooks}
 
 abbrev pub first_meta : ℤ → MetaRow
 first_meta day = record { day = day; acts = 0; shipments = 0 }

@@ -1,27 +1,9 @@
 -- What the rows of a file come to within their transaction.
-use Rattle.std.proofs.Common.{◌≡◌, ℕ, ◌+◌, true, false, List, [], ◌∷◌, Bool, Some, Ok, Err, Result, refl, sym, ap, subst, ◌∙◌, IsTrue, take, drop, arith}
-use Rattle.std.specs.Prelude.{ℤ, if◌then◌else◌, All, IfOk, OnOk}
-use Rattle.std.proofs.lemmas.List.Elements.{All-head, All-tail, All-drop, All-same}
-use Rattle.sqlite.specs.State.{State, IsUnchanged}
-use Rattle.commands.specs.declared.refusal.Refusal.{Refusal}
-use Rattle.commands.specs.Sound.{is_sound, is_sound_key}
-use Rattle.commands.specs.declared.key.Key.{Key}
-use Rattle.commands.specs.declared.command.Command.{Command}
-use Rattle.machine.specs.Acts.{Act}
+use Rattle.store.proofs.Words.{◌≡◌, ℕ, ◌+◌, true, false, List, [], ◌∷◌, Bool, Some, Ok, Err, Result, refl, sym, ap, subst, ◌∙◌, IsTrue, take, drop, arith, ℤ, if◌then◌else◌, All, IfOk, OnOk, All-head, All-tail, All-drop, All-same, State, IsUnchanged, Refusal, is_sound, is_sound_key, Key, Command, Act, IsHistory, IsSoundRequest, is_key_of, outcome, acts_after, appended, tallied, unless_refused, all_tallied, file_outcome_of, acts_after_file, acts_if_taken, AllSound, history_after, IsBooksOf, Reply, Fault, Tally, RowFault, Filed, IsActedInside, told, rows_of, AreKeysOf, taken, tally_of, one_more, DayGoes, ShowsBooks, IsRowTaken, IsFiledInside}
 use Rattle.machine.specs.Once as once
-use Rattle.machine.specs.Once.{IsHistory, IsSoundRequest, is_key_of, outcome, acts_after, appended, tallied, unless_refused, all_tallied, file_outcome_of, acts_after_file, acts_if_taken}
-use Rattle.machine.specs.Machine.{AllSound}
-use Rattle.machine.proofs.histories.Runs.{history_after}
-use Rattle.slices.specs.Books.{IsBooksOf}
-use Rattle.store.specs.declared.reply.Reply.{Reply}
-use Rattle.store.specs.declared.fault.Fault.{Fault}
 use Rattle.store.specs.declared.fault.Fault.TheVariants as fault
-use Rattle.store.specs.declared.tally.Tally.{Tally}
-use Rattle.store.specs.declared.tally.RowFault.{RowFault}
 use Rattle.store.specs.declared.tally.RowFault.TheVariants.{Refused, Store, Foreign}
-use Rattle.store.specs.declared.filing.Filed.{Filed}
-use Rattle.store.specs.Acting.{IsActedInside, told}
-use Rattle.store.specs.Filing.{rows_of, AreKeysOf, taken, tally_of, one_more, with_row, DayGoes, ShowsBooks, IsRowTaken, IsFiledInside}
+use Rattle.store.specs.Filing.{with_row}
 use Rattle.store.proofs.DayTold.{day_told}
 
 -- One row

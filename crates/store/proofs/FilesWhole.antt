@@ -1,24 +1,7 @@
 -- The rows of a file within a transaction, and then the transaction's end.
-use Rattle.std.proofs.Common.{◌≡◌, true, false, List, Ok, Err, Result, OnOk, sym, subst, ◌∙◌, IsTrue, arith}
-use Rattle.std.specs.Prelude.{ℤ}
-use Rattle.std.specs.Result.{IsErr, IsErrAnd, IsOk}
-use Rattle.sqlite.specs.State.{State, HasCleanDisk, Shows, Survives}
+use Rattle.store.proofs.Words.{◌≡◌, true, false, List, Ok, Err, Result, OnOk, sym, subst, ◌∙◌, IsTrue, arith, ℤ, IsErr, IsErrAnd, IsOk, State, HasCleanDisk, Shows, Survives, Held, state, Trees, Key, Command, Ends, survives_of, Act, today, IsHistory, acts_after_file, IsBooksOf, AreBooks, KeepsBooks, rows_of, AreKeysOf, IsFiledInside, IsFiledOn, IsFiled, RowFault, Filed}
 use Rattle.sqlite.specs.Store.{Ghosts}
-use Rattle.sqlite.specs.Held.{Held, state}
-use Rattle.sqlite.specs.Tree.{Trees}
-use Rattle.commands.specs.declared.key.Key.{Key}
-use Rattle.commands.specs.declared.command.Command.{Command}
-use Rattle.books_schema.specs.Ending.{Ends}
-use Rattle.books_schema.proofs.EndLemmas.{survives_of}
-use Rattle.machine.specs.Acts.{Act}
-use Rattle.machine.specs.Standing.{today}
-use Rattle.machine.specs.Once.{IsHistory, acts_after_file}
-use Rattle.slices.specs.Books.{IsBooksOf}
-use Rattle.store.specs.Books.{AreBooks, KeepsBooks}
-use Rattle.store.specs.Filing.{rows_of, AreKeysOf, IsFiledInside, IsFiledOn, IsFiled}
-use Rattle.store.specs.declared.tally.RowFault.{RowFault}
 use Rattle.store.specs.declared.tally.RowFault.TheVariants.{Refused, Store, Foreign}
-use Rattle.store.specs.declared.filing.Filed.{Filed}
 use Rattle.store.proofs.ActsWhole.{KeepsInside, books_in, books_begun, undone_whole, not_committed}
 
 pub by_row_error : {X : Type 0} (r : Result X RowFault) (f : RowFault) → IsErr r × IsErrAnd r (λ e. e ≡ f) → (P : Result X RowFault → Type 0) → P (Err f) → P r

@@ -1,25 +1,9 @@
 -- Records of the books handed to a sink, outside every transaction.
-use Rattle.std.proofs.Common.{◌≡◌, ℕ, List, [], inl, inr, refl, sym, subst, ◌∙◌, arith}
-use Rattle.std.specs.Prelude.{◌⊎◌, ℤ, Result, Ok, Err, IsTrue}
-use Rattle.sqlite_trees.specs.declared.store.Store.{Ghosts}
-use Rattle.sqlite.specs.Held.{Held, state}
-use Rattle.sqlite.specs.State.{State, HasCleanDisk, KeepsCommit, Survives, IsUnchanged, IsRolledBack, IsNotRun}
+use Rattle.store.proofs.Words.{◌≡◌, ℕ, List, [], inl, inr, refl, sym, subst, ◌∙◌, arith, ◌≢◌, ◌⊎◌, ℤ, Result, Ok, Err, IsTrue, State, HasCleanDisk, KeepsCommit, Survives, IsUnchanged, IsRolledBack, Error, survives_then, survives_weaker, Act, IsHistory, IsReady, kept_itself, kept_unchanged, kept_undone, kept_then, IsBooksOf, RowsFault, HandsOver, IsLeft, KeepsBooks, IsSettled, each_fault_of, IsHandedOn, NoBooks, Store, EachFault}
+use Rattle.sqlite.specs.State.{IsNotRun}
 use Rattle.sqlite_value.specs.Order.{Row}
-use Rattle.sqlite.specs.declared.error.Error.{Error}
-use Rattle.sqlite.proofs.StateLemmas.{survives_then, survives_weaker}
-use Rattle.machine.specs.Acts.{Act}
-use Rattle.machine.specs.Once.{IsHistory}
-use Rattle.table_words.specs.Steps.{IsReady}
-use Rattle.table_words.proofs.CallLemmas.{kept_itself, kept_unchanged, kept_undone, kept_then}
 use Rattle.table_words.specs.declared.error.TableFault.TheVariants as table
-use Rattle.slices.specs.Books.{IsBooksOf}
-use Rattle.each_row.specs.declared.fault.EachFault.{EachFault as RowsFault}
-use Rattle.each_row.specs.declared.fault.EachFault.TheVariants as rows
-use Rattle.each_row.specs.Handed.{HandsOver, IsLeft}
-use Rattle.store.specs.Books.{KeepsBooks, IsSettled}
-use Rattle.store.specs.EachFaults.{each_fault_of}
-use Rattle.store.specs.Handing.{IsHandedOn, NoBooks}
-use Rattle.store.specs.declared.fault.Fault.TheVariants.{Store}
+use Rattle.keyed_rows.specs.declared.each_fault.EachFault.TheVariants as rows
 use Rattle.store.specs.declared.each_fault.EachFault.TheVariants.{Fault}
 
 -- a statement that was not made ready changes nothing, or the store failed
@@ -44,11 +28,6 @@ module _ (first : ℤ) (acts : List Act) (old new : State) where
   pub books_on : KeepsBooks first acts old → IsUnchanged old new → IsBooksOf first acts new.now
   books_on held same = subst (IsBooksOf first acts) (sym same.0.now_is) (held.books same.0.was_open)
 
--- the same of a connection that may be as it was
-pub moved_keeps : {S : Type 0} (g : Ghosts S) (first : ℤ) (acts : List Act) (old new : Held S) → KeepsBooks first acts (state g old) → (new ≡ old) ⊎ (IsUnchanged (state g old) (state g new) ⊎ IsRolledBack (state g old) (state g new)) → KeepsBooks first acts (state g new)
-moved_keeps g first acts old new held (inl same) = subst (λ h. KeepsBooks first acts (state g h)) (sym same) held
-moved_keeps g first acts old new held (inr left) = left_keeps first acts (state g old) (state g new) held left
-
 module _ {X K : Type 0} (first : ℤ) (acts : List Act) (takes stops : K → X → K → Type 0) (records : List X) (before after : K) (old mid new : State) where
   pub handed_all : KeepsBooks first acts mid → HandsOver takes stops before records after (Ok tt) → IsLeft mid new (Ok tt) → IsHandedOn first acts takes stops records before after (Ok tt) new
   handed_all held h left = (h, left_keeps first acts mid new held (inl left))
@@ -58,15 +37,19 @@ module _ {X K : Type 0} (first : ℤ) (acts : List Act) (takes stops : K → X �
   handed_some (rows.Fault table.Foreign) held h left = absurd h
   handed_some rows.Stopped held h left = (h, left_keeps first acts mid new held (inl left))
 
+-- but for a fault of the store the connection is open
+pub still_open : {X K : Type 0} (takes stops : K → X → K → Type 0) (records : List X) (before after : K) (mid new : State) (fault : RowsFault) → HandsOver takes stops before records after (Err fault) → IsLeft mid new (Err fault)
+    → ◌≢◌ {A = Result (Unit {0}) EachFault} (Err (each_fault_of fault)) (Err (Fault Store)) → IsTrue new.is_open
+still_open takes stops records before after mid new (rows.Fault (table.Store cause)) h left some = absurd (some refl)
+still_open takes stops records before after mid new (rows.Fault table.Foreign) h left some = absurd h
+still_open takes stops records before after mid new rows.Stopped h left some = left.0.is_open
+
 -- nothing was handed over
 pub handed_none : {X K : Type 0} (first : ℤ) (acts : List Act) (takes stops : K → X → K → Type 0) (records : List X) (sink : K) (old new : State) → KeepsBooks first acts old → IsUnchanged old new ⊎ IsRolledBack old new
     → IsHandedOn first acts takes stops records sink sink (Err (Fault Store)) new
 handed_none first acts takes stops records sink old new held left = (record { taken = []; others = records; parts = refl; reached = refl }, left_keeps first acts old new held left)
 
 -- ---- nothing is committed
-
-pub never_commits_itself : (s : State) → Survives s s (NoBooks s)
-never_commits_itself s = record { clean = omega arith; shield = λ h. h; counts = omega arith; limit = refl; closes = λ _ h. inl h; crash = λ _ db h. inl h }
 
 pub never_commits_none : (old new : State) → Survives old new (λ _. ⊥) → Survives old new (NoBooks old)
 never_commits_none old new one = survives_weaker old new _ (NoBooks old) (λ clean db none. absurd none) one
@@ -75,12 +58,6 @@ pub never_commits_on : (old mid new : State) → Survives old mid (λ _. ⊥) �
 never_commits_on old mid new one two same =
     survives_then old mid new _ _ (NoBooks old) (λ clean db none. absurd none)
     (λ clean db unready first acts history held. unready (books_on first acts old mid held (same (omega (arith, clean, two.clean)))).ready) one two
-
--- a call after one that leaves the books
-pub never_commits_later : (old mid new : State) → Survives old mid (NoBooks old) → Survives mid new (NoBooks mid) → (HasCleanDisk mid → (first : ℤ) (acts : List Act) → IsHistory first acts → KeepsBooks first acts old → KeepsBooks first acts mid)
-    → Survives old new (NoBooks old)
-never_commits_later old mid new one two keeps =
-    survives_then old mid new _ _ (NoBooks old) (λ clean db none. none) (λ clean db none first acts history held. none first acts history (keeps (omega (arith, clean, two.clean)) first acts history held)) one two
 
 -- ---- the same on tables of whatever origin
 
@@ -92,9 +69,6 @@ left_or_undone mid new (Err rows.Stopped) left = inl left
 -- what commits nothing, and leaves the connection settled
 abbrev pub Stays : State → State → Type 0
 Stays old new = HasCleanDisk new → IsSettled old → KeepsCommit old new × IsSettled new
-
-pub stays_itself : (s : State) → Stays s s
-stays_itself s clean settled = (kept_itself s, settled)
 
 pub settled_back : (old last new : State) → IsSettled old → KeepsCommit old last → IsRolledBack last new → IsSettled new
 settled_back old last new at kept back = record {
@@ -115,12 +89,7 @@ pub left_stays : (old new : State) → IsUnchanged old new ⊎ IsRolledBack old 
 left_stays old new (inl same) at = (kept_unchanged old new same, settled_same old new at same)
 left_stays old new (inr back) at = (kept_undone old new back, settled_back old old new at (kept_itself old) back)
 
-pub moved_stays : {S : Type 0} (g : Ghosts S) (old new : Held S) → (new ≡ old) ⊎ (IsUnchanged (state g old) (state g new) ⊎ IsRolledBack (state g old) (state g new)) → IsSettled (state g old)
-    → KeepsCommit (state g old) (state g new) × IsSettled (state g new)
-moved_stays g old new (inl same) at = subst (λ h. KeepsCommit (state g old) (state g h) × IsSettled (state g h)) (sym same) (kept_itself (state g old), at)
-moved_stays g old new (inr left) at = left_stays (state g old) (state g new) left at
-
-pub stays_then : (a b c : State) → KeepsCommit a b × IsSettled b → (IsSettled b → KeepsCommit b c × IsSettled c) → KeepsCommit a c × IsSettled c
+stays_then : (a b c : State) → KeepsCommit a b × IsSettled b → (IsSettled b → KeepsCommit b c × IsSettled c) → KeepsCommit a c × IsSettled c
 stays_then a b c one two = let next = two one.1 in (kept_then a b c one.0 next.0, next.1)
 
 -- what hands rows over leaves the connection settled

@@ -1,31 +1,5 @@
 -- What is known of the tables: after a call within a transaction, and at the transaction's end.
-use Rattle.std.proofs.Common.{◌≡◌, Bool, true, false, Ok, Err, Result, OnOk, OnErr, IfOk, IfErr, sym, ap, subst, ◌∙◌, IsTrue, arith}
-use Rattle.std.specs.Prelude.{Option, Some, None, IfSome, is_ok}
-use Rattle.std.specs.Result.{IsErr}
-use Rattle.sqlite.specs.State.{State, HasCleanDisk, Shows, KeepsCommit, IsUnchanged, IsRolledBack, Survives}
-use Rattle.sqlite.specs.Effect.{Database}
-use Rattle.sqlite.specs.Tree.{Trees}
-use Rattle.sqlite.specs.declared.error.Error.{Error}
-use Rattle.sqlite_trees.specs.View.{doubt}
-use Rattle.commands.specs.Tables.{Tables}
-use Rattle.commands.specs.declared.rows.RepeatRow.{RepeatRow}
-use Rattle.table_words.specs.Steps.{IsReady, Goes}
-use Rattle.table_words.specs.Typed.{tables_in, with_repeat}
-use Rattle.table_words.proofs.CallLemmas.{kept_then}
-use Rattle.books_schema.specs.Ending.{Ends}
-use Rattle.books_schema.proofs.EndLemmas.{if_so, whole_of, undone_of, kept_of}
-use Rattle.row_rules.specs.declared.slice.Put.{Put}
-use Rattle.row_rules.specs.declared.slice.Change.{Change}
-use Rattle.changes.specs.Written.{change_written}
-use Rattle.open_orders.specs.OpenLines.{Keeps}
-use Rattle.slices.specs.Bounding.{IsRaised}
-use Rattle.slices.specs.Remembering.{ForgetsPut}
-use Rattle.slices.specs.Following.{KnowsFollowed, Follows}
-use Rattle.slices.specs.Slicing.{HoldsOf, HoldsBeside, Knows}
-use Rattle.slices.specs.declared.knowing.Known.{Known}
-use Rattle.slices.proofs.StillKnown.{rows_stay_known}
-use Rattle.store.specs.Books.{IsSettled}
-use Rattle.store.specs.Knowing.{HasKnown, IsKnown, GoesOnKnown, HoldsLeft, HasLeft, LeavesKnown}
+use Rattle.store.proofs.Words.{◌≡◌, Bool, true, false, Ok, Err, Result, OnOk, OnErr, IfOk, IfErr, sym, ap, subst, ◌∙◌, IsTrue, arith, Option, Some, None, IfSome, is_ok, IsErr, State, HasCleanDisk, Shows, KeepsCommit, IsUnchanged, IsRolledBack, Survives, Database, Trees, Error, doubt, Tables, RepeatRow, IsReady, Goes, tables_in, with_repeat, TableFault, kept_then, Ends, if_so, whole_of, undone_of, kept_of, Put, Change, change_written, Keeps, IsRaised, ForgetsPut, KnowsFollowed, Follows, HoldsOf, HoldsBeside, Knows, Known, rows_stay_known, answer_of, IsSettled, HasKnown, IsKnown, GoesOnKnown, HoldsLeft, HasLeft, LeavesKnown}
 use Rattle.store.proofs.ActsWhole.{KeepsInside, begun_commit}
 use Rattle.store.proofs.HandedOn.{Stays, settled_back}
 use Rattle.store.proofs.LinesWritten.{covers_written, covers_urgent_written}
@@ -115,7 +89,7 @@ module _ (known put after : Known) (change : Change) (row : RepeatRow) (keeps : 
 
   pub known_written : {X E : Type 0} (r : Result X E) (old mid new : State) → IsUnchanged old mid → (KnowsFollowed (tables_in old.now.trees) known.rows.followed → KnowsFollowed (tables_in old.now.trees) put.rows.followed)
       → (KnowsFollowed (tables_in old.now.trees) known.rows.followed → Knows change.put (tables_in old.now.trees) put) → IfOk r (λ _. Follows change put.rows.followed after.rows.followed) → IfErr r (λ _. after ≡ put)
-      → OnOk r (Goes (λ t. with_repeat row (change_written change t)) mid new) → LeavesKnown (Some known) (Some after) r old new
+      → IfOk r (λ _. Goes (λ t. with_repeat row (change_written change t)) mid new) → LeavesKnown (Some known) (Some after) r old new
   known_written (Ok x) old mid new unchanged followed knows follows unwritten goes = record {
     before = left_written (tables_in old.now.trees) followed;
     answered = (
@@ -129,6 +103,11 @@ module _ (known put after : Known) (change : Change) (row : RepeatRow) (keeps : 
     before = λ holds. subst (λ (k : Known). HoldsOf k (tables_in old.now.trees)) (sym unwritten) (holds_more known put change.put (tables_in old.now.trees) keeps keeps_urgent raised forgets followed holds);
     answered = tt;
   }
+
+-- what is known after what was written is known after the answer
+pub known_answered_to : (change : Change) (known after : Option Known) (r : Result (Unit {0}) TableFault) (old new : State) → LeavesKnown known after r old new → LeavesKnown known after (answer_of change r) old new
+known_answered_to change known after (Ok done) old new leaves = record { before = leaves.before; answered = leaves.answered }
+known_answered_to change known after (Err e) old new leaves = record { before = leaves.before; answered = leaves.answered }
 
 -- The transaction's end
 

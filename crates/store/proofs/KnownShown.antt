@@ -1,18 +1,5 @@
 -- What is known of the books, with the rows that a look at them reads.
-use Rattle.std.proofs.Common.{◌≡◌, true, sym, ap, subst, ◌∙◌, IsTrue, arith}
-use Rattle.std.specs.Prelude.{Option, IfSome}
-use Rattle.commands.specs.Tables.{Tables}
-use Rattle.sqlite.specs.Effect.{Database}
-use Rattle.sqlite.specs.State.{State, HasCleanDisk, Survives}
-use Rattle.sqlite.specs.Tree.{Trees}
-use Rattle.sqlite_trees.specs.View.{doubt}
-use Rattle.table_words.specs.Steps.{IsReady}
-use Rattle.table_words.specs.Typed.{tables_in}
-use Rattle.slices.specs.Remembering.{KnowsRows}
-use Rattle.slices.specs.Slicing.{HoldsOf}
-use Rattle.slices.specs.declared.knowing.Known.{Known}
-use Rattle.slices.specs.declared.rows_known.RowsKnown.{RowsKnown}
-use Rattle.store.specs.Knowing.{HasKnown, IsKnown}
+use Rattle.store.proofs.Words.{◌≡◌, true, sym, ap, subst, ◌∙◌, IsTrue, arith, Option, IfSome, Tables, Database, State, HasCleanDisk, Survives, Trees, doubt, IsReady, tables_in, KnowsRows, HoldsOf, Known, RowsKnown, HasKnown, IsKnown}
 use Rattle.store.proofs.HandedOn.{Stays}
 use Rattle.store.proofs.KnownKept.{ready_begun, holds_begun}
 

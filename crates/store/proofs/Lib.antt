@@ -1,4 +1,4 @@
-pub mod TypedRows
+mod Words
 pub mod FaultsTold
 pub mod RepeatRead
 pub mod RepeatTold
@@ -13,17 +13,12 @@ pub mod ShownWhole
 pub mod DayTold
 pub mod FilesInside
 pub mod FilesWhole
-pub mod CardOrder
 pub mod HandedOn
 pub mod ActsHanded
 pub mod AsBefore
-pub mod Listings
-pub mod BinOrder
-pub mod ShipmentOrder
-pub mod ShipmentCards
-pub mod ShipmentsHanded
 pub mod LinesWritten
 pub mod BoundsWritten
+pub mod StageEmptied
 pub mod FollowedWritten
 pub mod RowsWritten
 pub mod KnownKept

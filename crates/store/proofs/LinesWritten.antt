@@ -1,77 +1,5 @@
 -- The open orders of the tables that a change leaves are known, if those before are, and what the change puts.
-use Rattle.std.proofs.Common.{◌≡◌, ℕ, Bool, true, false, ◌&&◌, List, [], ◌∷◌, map, filter, ◌⊎◌, inl, inr, refl, sym, ap, ◌∙◌}
-use Rattle.std.specs.Prelude.{◌||◌, if◌then◌else◌, Option, Some, None, is_some}
-use Rattle.values.specs.Values.{same_text}
-use Rattle.commands.specs.Tables.{Tables}
-use Rattle.commands.specs.declared.rows.OrderRow.{OrderRow}
-use Rattle.commands.specs.declared.rows.UrgentRow.{UrgentRow}
-use Rattle.commands.specs.declared.rows.LineRow.{LineRow}
-use Rattle.commands.specs.declared.rows.RepeatRow.{RepeatRow}
-use Rattle.table_words.specs.Typed.{with_item, with_least, with_bin, with_lot, with_recall, with_stock, without_stock, with_order, with_urgent, with_line, with_staged, without_staged, with_reserved, without_reserved, with_shipment, with_shipline, with_card, with_repeat, order_key, is_open_order}
-use Rattle.machine.proofs.Tests.{or_first, or_later}
-use Rattle.row_rules.specs.declared.slice.Put.{Put}
-use Rattle.row_rules.specs.declared.slice.Dropped.{Dropped}
-use Rattle.row_rules.specs.declared.slice.Change.{Change}
-use Rattle.keyed_rows.specs.Writes.{each_written}
-use Rattle.changes.specs.Written.{lines_written, goods_written, stage_emptied, change_written}
-use Rattle.open_orders.specs.OpenLines.{Keeps, has_line_row}
-use Rattle.slices.specs.Slicing.{is_among, is_passed, is_open_in, has_urgent_row, opens, comes, Covers, CoversUrgent, Knows}
-use Rattle.slices.specs.declared.knowing.Known.{Known}
-use Rattle.slices.proofs.RowsTold.{and_true}
-
--- The tables of orders, of urgent ones and of lines are left by what writes others
-
-module _ {X : Type 0} (get : Tables → X) where
-  pub rows_spare : {R : Type 0} (write : R → Tables → Tables) → ((r : R) (t : Tables) → get (write r t) ≡ get t) → (rows : List R) (t : Tables) → get (each_written write rows t) ≡ get t
-  rows_spare write spares [] t = refl
-  rows_spare write spares (r ∷ rows) t = rows_spare write spares rows (write r t) ∙ spares r t
-
-  pub stage_spares : ((o : List ℕ) (t : Tables) → get (stage_emptied (Some o) t) ≡ get t) → (stage : Option (List ℕ)) (t : Tables) → get (stage_emptied stage t) ≡ get t
-  stage_spares spares None t = refl
-  stage_spares spares (Some o) t = spares o t
-
-abbrev pub Ordered : Type 0
-Ordered = (List ℕ → Option OrderRow) × (List ℕ → List ℕ → Option LineRow) × (List ℕ → Option UrgentRow)
-
-abbrev pub ordered : Tables → Ordered
-ordered t = (t.order, t.line, t.urgent)
-
-pub goods_spare : (p : Put) (d : Dropped) (t : Tables) → ordered (goods_written p d t) ≡ ordered t
-goods_spare p d t =
-    let one : Tables = each_written with_item p.items t in
-    let two : Tables = each_written with_least p.least one in
-    let three : Tables = each_written with_bin p.bins two in
-    let four : Tables = each_written with_lot p.lots three in
-    let five : Tables = each_written with_recall p.recalls four in
-    let six : Tables = each_written (λ r. without_stock r.lot r.bin) d.stock five in
-    rows_spare ordered with_stock (λ r u. refl) p.stock six
-    ∙ rows_spare ordered (λ r. without_stock r.lot r.bin) (λ r u. refl) d.stock five
-    ∙ rows_spare ordered with_recall (λ r u. refl) p.recalls four
-    ∙ rows_spare ordered with_lot (λ r u. refl) p.lots three
-    ∙ rows_spare ordered with_bin (λ r u. refl) p.bins two
-    ∙ rows_spare ordered with_least (λ r u. refl) p.least one
-    ∙ rows_spare ordered with_item (λ r u. refl) p.items t
-
-pub change_spares : (c : Change) (t : Tables) → ordered (change_written c t) ≡ ordered (lines_written c.put (goods_written c.put c.dropped t))
-change_spares c t =
-    let p = c.put in
-    let d = c.dropped in
-    let lined : Tables = lines_written p (goods_written p d t) in
-    let emptied : Tables = stage_emptied d.stage lined in
-    let one : Tables = each_written (λ r. without_staged r.order r.lot) d.staged emptied in
-    let two : Tables = each_written with_staged p.staged one in
-    let three : Tables = each_written (λ r. without_reserved r.order r.lot) d.reserved two in
-    let four : Tables = each_written with_reserved p.reserved three in
-    let five : Tables = each_written with_shipment p.shipments four in
-    let six : Tables = each_written with_shipline p.shiplines five in
-    rows_spare ordered with_card (λ r u. refl) p.cards six
-    ∙ rows_spare ordered with_shipline (λ r u. refl) p.shiplines five
-    ∙ rows_spare ordered with_shipment (λ r u. refl) p.shipments four
-    ∙ rows_spare ordered with_reserved (λ r u. refl) p.reserved three
-    ∙ rows_spare ordered (λ r. without_reserved r.order r.lot) (λ r u. refl) d.reserved two
-    ∙ rows_spare ordered with_staged (λ r u. refl) p.staged one
-    ∙ rows_spare ordered (λ r. without_staged r.order r.lot) (λ r u. refl) d.staged emptied
-    ∙ stage_spares ordered (λ o u. refl) d.stage lined
+use Rattle.store.proofs.Words.{◌≡◌, ℕ, Bool, true, false, ◌&&◌, List, [], ◌∷◌, map, filter, ◌⊎◌, inl, inr, refl, sym, ap, ◌∙◌, ◌||◌, if◌then◌else◌, Option, Some, is_some, same_text, Tables, OrderRow, UrgentRow, LineRow, RepeatRow, LineKey, with_order, with_urgent, with_line, with_repeat, order_key, is_open_order, or_first, or_later, Change, each_written, Orders, Urgents, Lines, change_written, table_left, Keeps, has_line_row, is_among, is_passed, is_open_in, has_urgent_row, opens, comes, Covers, CoversUrgent, Knows, Known, and_true}
 
 -- An order is open after rows are put because one of them opens it, or it was open
 
@@ -124,46 +52,18 @@ urgent_put (r ∷ rows) t o there = elim (urgent_put rows (with_urgent r t) o th
     by_key false is e = inr e
 
 module _ (c : Change) (row : RepeatRow) (t : Tables) where
-  abbrev puts : Put
-  puts = c.put
-
-  abbrev before : Tables
-  before = goods_written c.put c.dropped t
-
-  abbrev with_orders : Tables
-  with_orders = each_written with_order c.put.orders before
-
-  abbrev with_urgents : Tables
-  with_urgents = each_written with_urgent c.put.urgents with_orders
+  abbrev left : Tables
+  left = with_repeat row (change_written c t)
 
   -- an order of the tables after is open
-  open_after : (o : List ℕ) → is_open_in (with_repeat row (change_written c t)) o ≡ true → (opens c.put.orders o ≡ true) ⊎ (is_open_in t o ≡ true)
-  open_after o up =
-      let lined : is_open_in (lines_written c.put before) o ≡ true = sym (ap (λ (x : Ordered). is_passed is_open_order (x.0 o)) (change_spares c t)) ∙ up in
-      let put : is_open_in with_orders o ≡ true = sym (ap (λ (f : List ℕ → Option OrderRow). is_passed is_open_order (f o)) (rows_spare (λ u. u.order) with_line (λ r u. refl) c.put.lines with_urgents ∙ rows_spare (λ u. u.order) with_urgent (λ r u. refl) c.put.urgents with_orders)) ∙ lined in
-      elim (open_put c.put.orders before o put) [
-        | inl opened ↦ inl opened
-        | inr was ↦ inr (sym (ap (λ (x : Ordered). is_passed is_open_order (x.0 o)) (goods_spare c.put c.dropped t)) ∙ was)
-      ]
+  open_after : (o : List ℕ) → is_open_in left o ≡ true → (opens c.put.orders o ≡ true) ⊎ (is_open_in t o ≡ true)
+  open_after o up = open_put c.put.orders t o (sym (ap (λ (f : List ℕ → Option OrderRow). is_passed is_open_order (f o)) (table_left c t Orders)) ∙ up)
 
-  line_after : (g o : List ℕ) → is_some ((with_repeat row (change_written c t)).line o g) ≡ true → (has_line_row c.put.lines g o ≡ true) ⊎ (is_some (t.line o g) ≡ true)
-  line_after g o there =
-      let lined : is_some ((lines_written c.put before).line o g) ≡ true = sym (ap (λ (x : Ordered). is_some (x.1 o g)) (change_spares c t)) ∙ there in
-      elim (line_put c.put.lines with_urgents g o lined) [
-        | inl put ↦ inl put
-        | inr was ↦ inr (sym (ap (λ (x : Ordered). is_some (x.1 o g)) (goods_spare c.put c.dropped t))
-            ∙ sym (ap (λ (f : List ℕ → List ℕ → Option LineRow). is_some (f o g)) (rows_spare (λ u. u.line) with_urgent (λ r u. refl) c.put.urgents with_orders ∙ rows_spare (λ u. u.line) with_order (λ r u. refl) c.put.orders before)) ∙ was)
-      ]
+  line_after : (g o : List ℕ) → is_some (left.line o g) ≡ true → (has_line_row c.put.lines g o ≡ true) ⊎ (is_some (t.line o g) ≡ true)
+  line_after g o there = line_put c.put.lines t g o (sym (ap (λ (f : LineKey → Option LineRow). is_some (f (o, g))) (table_left c t Lines)) ∙ there)
 
-  urgent_after : (o : List ℕ) → is_some ((with_repeat row (change_written c t)).urgent o) ≡ true → (has_urgent_row c.put.urgents o ≡ true) ⊎ (is_some (t.urgent o) ≡ true)
-  urgent_after o there =
-      let lined : is_some ((lines_written c.put before).urgent o) ≡ true = sym (ap (λ (x : Ordered). is_some (x.2 o)) (change_spares c t)) ∙ there in
-      let put : is_some (with_urgents.urgent o) ≡ true = sym (ap (λ (f : List ℕ → Option UrgentRow). is_some (f o)) (rows_spare (λ u. u.urgent) with_line (λ r u. refl) c.put.lines with_urgents)) ∙ lined in
-      elim (urgent_put c.put.urgents with_orders o put) [
-        | inl put ↦ inl put
-        | inr was ↦ inr (sym (ap (λ (x : Ordered). is_some (x.2 o)) (goods_spare c.put c.dropped t))
-            ∙ sym (ap (λ (f : List ℕ → Option UrgentRow). is_some (f o)) (rows_spare (λ u. u.urgent) with_order (λ r u. refl) c.put.orders before)) ∙ was)
-      ]
+  urgent_after : (o : List ℕ) → is_some (left.urgent o) ≡ true → (has_urgent_row c.put.urgents o ≡ true) ⊎ (is_some (t.urgent o) ≡ true)
+  urgent_after o there = urgent_put c.put.urgents t o (sym (ap (λ (f : List ℕ → Option UrgentRow). is_some (f o)) (table_left c t Urgents)) ∙ there)
 
   -- what comes with the change
   come_put : (g o : List ℕ) → has_line_row c.put.lines g o ≡ true → comes c.put t g o ≡ true
@@ -175,7 +75,7 @@ module _ (c : Change) (row : RepeatRow) (t : Tables) where
   come_urgent : (g o : List ℕ) → is_some (t.line o g) ≡ true → has_urgent_row c.put.urgents o ≡ true → comes c.put t g o ≡ true
   come_urgent g o was urgent = or_later (has_line_row c.put.lines g o) _ (and_true _ _ was (or_later (opens c.put.orders o) _ urgent))
 
-  pub covers_written : (old new : Known) → Covers old.lines t → Keeps old.lines new.lines → Knows c.put t new → Covers new.lines (with_repeat row (change_written c t))
+  pub covers_written : (old new : Known) → Covers old.lines t → Keeps old.lines new.lines → Knows c.put t new → Covers new.lines left
   covers_written old new covers keeps knows o g up there = elim (line_after g o there) [
     | inl put ↦ knows.lines g o (come_put g o put)
     | inr was ↦ elim (open_after o up) [
@@ -188,7 +88,7 @@ module _ (c : Change) (row : RepeatRow) (t : Tables) where
   is_urgent_after o (inl put) = or_later (is_some (t.urgent o)) _ put
   is_urgent_after o (inr was) = or_first _ _ was
 
-  pub covers_urgent_written : (old new : Known) → CoversUrgent old.urgent t → Keeps old.urgent new.urgent → Knows c.put t new → CoversUrgent new.urgent (with_repeat row (change_written c t))
+  pub covers_urgent_written : (old new : Known) → CoversUrgent old.urgent t → Keeps old.urgent new.urgent → Knows c.put t new → CoversUrgent new.urgent left
   covers_urgent_written old new covers keeps knows o g up there hurried =
       let now = is_urgent_after o (urgent_after o hurried) in
       elim (line_after g o there) [

@@ -1,54 +1,9 @@
 -- From a connection that was found open to the books over it.
-use Rattle.std.proofs.Common.{◌≡◌, inl, inr, ℕ, Bool, true, false, ◌&&◌, List, [], ◌∷◌, ◌++◌, filter, map, slice_get, IsTrue, Result, Err, refl, sym, ap, subst, ◌∙◌, arith}
-use Rattle.std.specs.Prelude.{◌≤◌, ◌⊎◌, ℤ, pos, codes, nat_eq, None, Some, option_map, find, if◌then◌else◌}
-use Rattle.std.specs.List.{AllByRecursion}
-use Rattle.std.proofs.lemmas.Bool.{cases_Bool, eqb-true}
-use Rattle.label.specs.Days.{is_business_day}
-use Rattle.commands.specs.Tables.{Tables}
-use Rattle.commands.specs.declared.limits.TheConstants.{ACTS_MAX, SCHEMA_VERSION}
-use Rattle.commands.specs.declared.rows.MetaRow.{MetaRow}
-use Rattle.sqlite_value.specs.declared.value.Value.{Value}
-use Rattle.sqlite_value.specs.declared.value.Value.TheVariants.{Int}
-use Rattle.sqlite_value.specs.Order.{Row, column}
-use Rattle.sqlite_keyed.proofs.ListLemmas.{all_weaker}
-use Rattle.sqlite_trees.specs.declared.store.Store.{Ghosts}
-use Rattle.sqlite_trees.specs.View.{doubt}
-use Rattle.sqlite.specs.Effect.{Database}
-use Rattle.sqlite.specs.Held.{Held, state}
-use Rattle.sqlite.specs.State.{State, HasCleanDisk, Opens, IsLive, Survives}
-use Rattle.sqlite.specs.Schema.{Schema}
-use Rattle.sqlite.specs.Table.{Table}
-use Rattle.sqlite.specs.Tree.{Trees}
-use Rattle.table_words.specs.Cells.{is_the_number, is_the_text, is_signed, is_number}
-use Rattle.table_words.specs.Schema.{meta_tree, least_tree, least_table, urgents_tree, urgents_table, the_tables}
-use Rattle.table_words.specs.Typed.{tables_in, is_meta, is_meta_at, meta_in, meta_at, same_meta, meta_key, AreTyped}
-use Rattle.table_words.specs.declared.error.TableFault.{TableFault}
-use Rattle.table_words.specs.declared.error.TableFault.TheVariants.{Store as TableStore, Foreign as TableForeign}
-use Rattle.table_words.proofs.StepLemmas.{tables_same, typed_same, typed_at}
-use Rattle.books_schema.specs.Indexing.{KeepsRows}
-use Rattle.books_schema.specs.Bringing.{as_older, as_brought}
-use Rattle.books_schema.specs.Older.{number, older_tables}
-use Rattle.books_schema.specs.declared.older.OlderBooks.{OlderBooks}
-use Rattle.books_schema.specs.declared.older.OlderBooks.TheVariants.{First, Second}
-use Rattle.books_schema.specs.Settling.{HasDayAt, IsRaised, IsNumbered}
-use Rattle.books_schema.proofs.SettleLemmas.{each_itself}
-use Rattle.books_schema.proofs.OpenLemmas.{ready_tells, older_tells}
-use Rattle.books_schema.specs.Opening.{HasDayIn, HasSchema, IsReadyAs, AreReadTyped, KeepsRowsAs, ComesTo, IsCome, IsLeftAs, IsLeft, IsOpenAndSettled, Tells, TellTables}
-use Rattle.books_schema.specs.declared.ready_connection.Found.{Found}
-use Rattle.books_schema.specs.declared.ready_connection.Found.TheVariants.{Newest, Older}
-use Rattle.books_schema.specs.declared.ready_connection.Leftover.{Leftover}
+use Rattle.store.proofs.Words.{◌≡◌, inl, inr, ℕ, Bool, true, false, ◌&&◌, List, [], ◌∷◌, ◌++◌, filter, map, slice_get, IsTrue, Result, Err, refl, sym, ap, subst, ◌∙◌, arith, ◌≤◌, ◌⊎◌, ℤ, pos, codes, nat_eq, None, Some, option_map, find, if◌then◌else◌, AllByRecursion, cases_Bool, eqb-true, is_business_day, Tables, ACTS_MAX, SCHEMA_VERSION, MetaRow, Value, Int, column, all_weaker, Ghosts, doubt, Database, Held, state, State, HasCleanDisk, Opens, IsLive, Survives, Schema, Table, Trees, is_the_number, is_the_text, is_signed, is_number, meta_tree, least_tree, least_table, urgents_tree, urgents_table, the_tables, tables_in, is_meta, is_meta_at, meta_in, meta_at, same_meta, meta_key, AreTyped, TableFault, TableStore, TableForeign, tables_same, typed_same, typed_at, KeepsRows, as_older, as_brought, number, older_tables, OlderBooks, First, Second, HasDayAt, IsNumbered, each_itself, ready_tells, older_tells, HasDayIn, HasSchema, IsReadyAs, AreReadTyped, KeepsRowsAs, ComesTo, IsCome, IsLeftAs, IsOpenAndSettled, Tells, TellTables, Found, Newest, Older, Leftover, Act, today, are_of_schema, tables_of, and_both, and_false, first_books_go_on, second_books_go_on, AreRowsOf, KeepsBooks, fault_of, Fault, third_number, AreThirdRowsOf, AreOlderRowsOf, OlderRowsGoOn, AreRowsAt, AreFoundRows, MayCome, IsOpenedFrom, IsOpenedAsFound, IsLeftOver, unlimited, Store, Foreign}
+use Rattle.sqlite_value.specs.Order.{Row}
+use Rattle.books_schema.specs.Settling.{IsRaised}
+use Rattle.books_schema.specs.Opening.{IsLeft}
 use Rattle.books_schema.specs.declared.ready_connection.Leftover.TheVariants as left
-use Rattle.machine.specs.Acts.{Act}
-use Rattle.machine.specs.Standing.{today}
-use Rattle.machine.specs.Schemas.{are_of_schema}
-use Rattle.machine.specs.Tables.{tables_of}
-use Rattle.machine.proofs.Tests.{and_both, and_false}
-use Rattle.machine.proofs.histories.OlderBooks.{first_books_go_on, second_books_go_on}
-use Rattle.store.specs.Books.{AreRowsOf, KeepsBooks}
-use Rattle.store.specs.Faults.{fault_of}
-use Rattle.store.specs.declared.fault.Fault.{Fault}
-use Rattle.store.specs.Opening.{third_number, AreThirdRowsOf, AreOlderRowsOf, OlderRowsGoOn, AreRowsAt, AreFoundRows, MayCome, IsOpenedFrom, IsOpenedAsFound, IsLeftOver, unlimited}
-use Rattle.store.specs.declared.fault.Fault.TheVariants.{Store, Foreign}
 
 -- ---- faults
 

@@ -1,10 +1,5 @@
 -- The row that is read under a key.
-use Rattle.std.proofs.Common.{◌≡◌, ℕ, List, [], ◌∷◌, ap, sym, ◌∙◌}
-use Rattle.std.specs.Prelude.{bytes_eq, slice_get, Option, Some, find, if◌then◌else◌}
-use Rattle.commands.specs.declared.rows.RepeatRow.{RepeatRow}
-use Rattle.table_words.specs.Found.{AreRows}
-use Rattle.table_words.specs.Typed.{RepeatKey, same_repeat, repeat_key}
-use Rattle.machine.proofs.Tests.{and_both, same_text_refl}
+use Rattle.store.proofs.Words.{◌≡◌, ℕ, List, [], ◌∷◌, ap, sym, ◌∙◌, bytes_eq, slice_get, Option, Some, find, if◌then◌else◌, RepeatRow, AreRows, RepeatKey, same_repeat, repeat_key, and_both, same_text_refl}
 
 module _ (k : List ℕ) (row : RepeatKey → Option RepeatRow) where
   pub first_read : (rows : List RepeatRow) → AreRows {K = RepeatKey} same_repeat repeat_key (λ key. bytes_eq k key) row rows → ◌≡◌ {A = Option RepeatRow} (slice_get rows 0) (row k)

@@ -1,22 +1,6 @@
 -- The rows of `repeats` tell which act bears a key, and what its repeat is told.
-use Rattle.std.proofs.Common.{◌≡◌, true, false, List, [], ◌∷◌, refl, ap, sym, ◌∙◌, arith}
-use Rattle.std.specs.Prelude.{ℤ, Option, Some, None, option_map, if◌then◌else◌}
-use Rattle.values.specs.Values.{same_text}
-use Rattle.commands.specs.Spelling.{key_text, spelling}
-use Rattle.commands.specs.declared.key.Key.{Key}
-use Rattle.commands.specs.declared.refusal.Refusal.TheVariants.{KeyUsed}
-use Rattle.commands.specs.declared.rows.MetaRow.{MetaRow}
-use Rattle.commands.specs.declared.rows.RepeatRow.{RepeatRow}
-use Rattle.commands.specs.Tables.{Tables}
-use Rattle.table_words.specs.Typed.{with_repeat}
-use Rattle.machine.specs.Acts.{Act, next_number}
-use Rattle.machine.specs.Once.{Earlier, bearer, Repeated, Refused, told_again, outcome, judged}
-use Rattle.machine.specs.Replies.{reply}
-use Rattle.rules.specs.Slices.{applied, tables_but_repeats}
-use Rattle.machine.specs.Tables.{tables_of, repeat_row, meta_row}
-use Rattle.machine.specs.Verdict.{verdict}
-use Rattle.row_rules.specs.declared.slice.Change.{Change}
-use Rattle.machine.proofs.Tests.{some_one}
+use Rattle.store.proofs.Words.{◌≡◌, true, false, List, [], ◌∷◌, refl, ap, sym, ◌∙◌, arith, ℤ, Option, Some, None, option_map, if◌then◌else◌, same_text, key_text, spelling, Key, KeyUsed, MetaRow, RepeatRow, Tables, with_repeat, Act, next_number, Earlier, bearer, Repeated, told_again, outcome, judged, reply, applied, tables_but_repeats, tables_of, repeat_row, meta_row, verdict, Change, some_one}
+use Rattle.machine.specs.Once.{Refused}
 
 abbrev row_of : ℤ → Earlier → RepeatRow
 row_of first e = record { k = key_text e.act.key; act = next_number e.before; spell = spelling e.act.command; reply = reply first e.act e.before }

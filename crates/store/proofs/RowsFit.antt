@@ -1,11 +1,5 @@
 -- The rows of a history fit into their columns.
-use Rattle.std.proofs.Common.{◌≡◌, subst}
-use Rattle.std.specs.Prelude.{true}
-use Rattle.commands.specs.declared.rows.MetaRow.{MetaRow}
-use Rattle.goods_tables.specs.Meta.{fits_meta}
-use Rattle.machine.specs.Tables.{tables_of, meta_row}
-use Rattle.machine.proofs.Tests.{some_one}
-use Rattle.store.specs.Fitting.{RowsOfActsFit}
+use Rattle.store.proofs.Words.{◌≡◌, subst, true, MetaRow, fits_meta, tables_of, meta_row, some_one, RowsOfActsFit}
 use Rattle.store.proofs.ActsFit.{meta_fits, lot_fits, recall_fits, order_fits, urgent_fits, shipment_fits, repeat_fits}
 use Rattle.store.proofs.UnitsFit.{stock_fits, line_fits, staged_fits, reserved_fits, shipline_fits, card_fits}
 

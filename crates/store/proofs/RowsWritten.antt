@@ -1,139 +1,45 @@
 -- The rows that stay known while a change is written are those of the tables that it leaves.
-use Rattle.std.proofs.Common.{◌≡◌, ℕ, Bool, true, false, inl, inr, List, [], ◌∷◌, refl, sym, ap, subst, ◌∙◌}
-use Rattle.std.specs.Prelude.{◌||◌, if◌then◌else◌, reverse, Option, Some, None, IfSome}
-use Rattle.std.specs.List.{list_any}
-use Rattle.std.specs.Ordering.{nat_cmp, is_eq}
-use Rattle.std.specs.declared.cmp.Ordering.{Ordering}
-use Rattle.std.specs.Cmp.Lexicographic.{slice_cmp}
-use Rattle.std.proofs.lemmas.Bool.{cases_Bool}
-use Rattle.values.specs.Values.{same_text}
-use Rattle.commands.specs.Tables.{Tables}
-use Rattle.commands.specs.declared.rows.RepeatRow.{RepeatRow}
-use Rattle.table_words.specs.Found.{AreRows}
-use Rattle.table_words.specs.Typed.{same_item, item_key, same_least, least_key, same_bin, bin_key, same_recall, recall_key, with_item, with_least, with_bin, with_lot, with_recall, with_repeat}
-use Rattle.table_words.proofs.KeyLemmas.{IsSame}
-use Rattle.machine.proofs.Tests.{or_none}
-use Rattle.row_rules.specs.declared.slice.Change.{Change}
-use Rattle.slice_lists.specs.NameOrder.{names_told}
-use Rattle.keyed_rows.specs.Writes.{each_written}
-use Rattle.goods_tables.specs.Bins.{bins_laws}
-use Rattle.goods_tables.specs.Items.{items_laws}
-use Rattle.goods_tables.specs.Least.{least_laws}
-use Rattle.goods_tables.specs.Recalls.{recalls_laws}
-use Rattle.changes.specs.Written.{names_written, change_written}
-use Rattle.known_rows.specs.KnownRows.{RowMap, rows_at, ForgetsBy, Remembers}
-use Rattle.slices.specs.Following.{KnowsFollowed, Follows}
-use Rattle.slices.specs.Remembering.{KnowsRows, ForgetsPut}
-use Rattle.slices.specs.declared.followed.Followed.{Followed}
-use Rattle.slices.specs.declared.rows_known.RowsKnown.{RowsKnown}
-use Rattle.store.proofs.FollowedWritten.{Goods, goods_left, followed_written}
-use Rattle.store.proofs.LinesWritten.{rows_spare}
+use Rattle.store.proofs.Words.{◌≡◌, ℕ, Bool, false, List, [], ◌∷◌, refl, sym, subst, ◌∙◌, if◌then◌else◌, reverse, Option, Some, None, IfSome, list_any, nat_cmp, is_eq, slice_cmp, same_text, Tables, RepeatRow, AreRows, with_repeat, or_none, Change, names_told, with_row, each_written, TableName, Items, Least, Bins, Recalls, family, Row, described, look, puts, change_written, table_left, is_at, RowMap, rows_at, ForgetsBy, Remembers, known_as, others_are, KnowsFollowed, Follows, KnowsRows, ForgetsPut, Followed, RowsKnown}
+use Rattle.whole_tables.specs.Family.{Key}
+use Rattle.store.proofs.FollowedWritten.{followed_written}
 
--- A row is put that is none of those that are sought
-
-clash : {P : Type 0} (a : Bool) → a ≡ true → a ≡ false → P
-clash true e f = absurd (let g : true ≡ false = f in cc)
-clash false e f = absurd (let g : false ≡ true = e in cc)
-
-others_are : {K R : Type 0} (same : K → K → Bool) (key : R → K) → IsSame same → (wanted : K → Bool) (look : K → Option R) (r : R) (rows : List R) → AreRows same key wanted look rows → wanted (key r) ≡ false
-    → AreRows same key wanted (λ k. if same k (key r) then Some r else look k) rows
-others_are same key exact wanted look r rows are other = record {
-  found = λ k w. elim (cases_Bool (same k (key r))) [
-    | inl e ↦ clash (wanted (key r)) (subst (λ c. wanted c ≡ true) (exact k (key r) e) w) other
-    | inr e ↦ are.found k w ∙ sym (ap (λ b. if b then Some r else look k) e)
-  ];
-  only = are.only;
-  once = are.once;
-}
-
-module _ {B Q K R : Type 0} (cmp : Q → Q → Ordering) (key_of : B → Q) (same_by : B → B → Bool) (told : (x y : B) → is_eq (cmp (key_of y) (key_of x)) ≡ same_by x y) (same : K → K → Bool) (key : R → K) (exact : IsSame same)
-    (get : Tables → K → Option R) (wanted : B → K → Bool) (owner : R → B) (owns : (by : B) (r : R) → wanted by (key r) ≡ same_by by (owner r)) where
+module _ (n : TableName) (wanted : List ℕ → Key n → Bool) (owner : Row n → List ℕ) (owns : (by : List ℕ) (r : Row n) → wanted by ((described n).key r) ≡ same_text by (owner r))
+    (c : Change) (t left : Tables) (is_left : look n left ≡ look n (each_written (with_row (described n)) (puts c n) t)) where
   -- the rows that are sought by this are these
-  abbrev AreAt : Tables → B → List R → Type 0
-  AreAt t by rows = AreRows same key (wanted by) (get t) rows
+  abbrev AreAt : Tables → List ℕ → List (Row n) → Type 0
+  AreAt u by rows = AreRows (described n).same (described n).key (wanted by) (look n u) rows
 
-  -- tables that are the same there have the same rows
-  known_same : (t u : Tables) → get t ≡ get u → (m : RowMap Q R) → Remembers cmp key_of (AreAt t) m → Remembers cmp key_of (AreAt u) m
-  known_same t u is m known = subst (λ (f : K → Option R). Remembers cmp key_of (λ by rows. AreRows same key (wanted by) f rows) m) is known
+  abbrev is_sought : List ℕ → Row n → Bool
+  is_sought at r = is_eq (slice_cmp nat_cmp (reverse (owner r)) (reverse at))
 
-  module _ (write : R → Tables → Tables) (puts : (r : R) (t : Tables) → get (write r t) ≡ (λ k. if same k (key r) then Some r else get t k)) where
-    -- so are rows of which none is sought by this
-    spared : (rows : List R) (t : Tables) (at : B) (found : List R) → list_any (λ r. is_eq (cmp (key_of (owner r)) (key_of at))) rows ≡ false → AreAt t at found → AreAt (each_written write rows t) at found
-    spared [] t at found none are = are
-    spared (r ∷ rs) t at found none are =
-        let two = or_none (is_eq (cmp (key_of (owner r)) (key_of at))) (list_any (λ r. is_eq (cmp (key_of (owner r)) (key_of at))) rs) none in
-        spared rs (write r t) at found two.1
-        (subst (λ (f : K → Option R). AreRows same key (wanted at) f found) (sym (puts r t)) (others_are same key exact (wanted at) (get t) r found are (owns at r ∙ sym (told at (owner r)) ∙ two.0)))
+  -- so they are where rows are put of which none is sought
+  spared : (rows : List (Row n)) (u : Tables) (at : List ℕ) (found : List (Row n)) → list_any (is_sought at) rows ≡ false → AreAt u at found → AreAt (each_written (with_row (described n)) rows u) at found
+  spared [] u at found none are = are
+  spared (r ∷ rs) u at found none are =
+      let two = or_none (is_sought at r) (list_any (is_sought at) rs) none in
+      spared rs (with_row (described n) r u) at found two.1
+      (subst (λ (f : Key n → Option (Row n)). AreRows (described n).same (described n).key (wanted at) f found) (sym ((family n).there (λ k. if is_at n k r then Some r else look n u k) u))
+      (others_are (described n).same (described n).key (family n).laws.itself (family n).laws.one_key (wanted at) (look n u) r found are (owns at r ∙ sym (names_told at (owner r)) ∙ two.0) (Some r)))
 
-    known_spared : (rows : List R) (t : Tables) (old new : RowMap Q R) → ForgetsBy cmp (λ r. key_of (owner r)) rows old new → Remembers cmp key_of (AreAt t) old → Remembers cmp key_of (AreAt (each_written write rows t)) new
-    known_spared rows t old new forgets known at = left (rows_at cmp new (key_of at)) (forgets (key_of at))
-      where
-        left : (x : Option (List R)) → IfSome x (λ found. (rows_at cmp old (key_of at) ≡ Some found) × (list_any (λ r. is_eq (cmp (key_of (owner r)) (key_of at))) rows ≡ false)) → IfSome x (AreAt (each_written write rows t) at)
-        left None h = tt
-        left (Some found) h = spared rows t at found h.1 (subst (λ y. IfSome y (AreAt t at)) h.0 (known at))
+  pub known_spared : (old new : RowMap (List ℕ) (Row n)) → ForgetsBy (slice_cmp nat_cmp) (λ r. reverse (owner r)) (puts c n) old new → Remembers (slice_cmp nat_cmp) reverse (AreAt t) old → Remembers (slice_cmp nat_cmp) reverse (AreAt left) new
+  known_spared old new forgets known =
+      known_as (slice_cmp nat_cmp) reverse same_text names_told (described n).same (described n).key (family n).laws.itself (family n).laws.one_key (look n) wanted owner owns (each_written (with_row (described n)) (puts c n) t) left (sym is_left) new
+      (λ at. kept at (rows_at (slice_cmp nat_cmp) new (reverse at)) (forgets (reverse at)))
+    where
+      kept : (at : List ℕ) (x : Option (List (Row n))) → IfSome x (λ found. (rows_at (slice_cmp nat_cmp) old (reverse at) ≡ Some found) × (list_any (is_sought at) (puts c n) ≡ false)) → IfSome x (AreAt (each_written (with_row (described n)) (puts c n) t) at)
+      kept at None h = tt
+      kept at (Some found) h = spared (puts c n) t at found h.1 (subst (λ y. IfSome y (AreAt t at)) h.0 (known at))
 
 module _ (c : Change) (row : RepeatRow) (t : Tables) where
-  abbrev with_items : Tables
-  with_items = each_written with_item c.put.items t
-
-  abbrev asked : Tables
-  asked = each_written with_least c.put.least with_items
-
-  abbrev named : Tables
-  named = names_written c.put t
-
-  abbrev lotted : Tables
-  lotted = each_written with_lot c.put.lots named
-
-  abbrev recalled : Tables
-  recalled = each_written with_recall c.put.recalls lotted
-
   abbrev left : Tables
   left = with_repeat row (change_written c t)
-
-  items_left : left.item ≡ with_items.item
-  items_left =
-      ap (λ (x : Goods). x.0) (goods_left c row t) ∙ rows_spare (λ u. u.item) with_recall (λ r u. refl) c.put.recalls lotted ∙ rows_spare (λ u. u.item) with_lot (λ r u. refl) c.put.lots named
-      ∙ rows_spare (λ u. u.item) with_bin (λ r u. refl) c.put.bins asked ∙ rows_spare (λ u. u.item) with_least (λ r u. refl) c.put.least with_items
-
-  least_left : left.least ≡ asked.least
-  least_left =
-      ap (λ (x : Goods). x.1) (goods_left c row t) ∙ rows_spare (λ u. u.least) with_recall (λ r u. refl) c.put.recalls lotted ∙ rows_spare (λ u. u.least) with_lot (λ r u. refl) c.put.lots named ∙ rows_spare (λ u. u.least) with_bin (λ r u. refl) c.put.bins asked
-
-  least_before : with_items.least ≡ t.least
-  least_before = rows_spare (λ u. u.least) with_item (λ r u. refl) c.put.items t
-
-  recalls_left : left.recall ≡ recalled.recall
-  recalls_left = ap (λ (x : Goods). x.4) (goods_left c row t)
-
-  recalls_before : lotted.recall ≡ t.recall
-  recalls_before =
-      rows_spare (λ u. u.recall) with_lot (λ r u. refl) c.put.lots named ∙ rows_spare (λ u. u.recall) with_bin (λ r u. refl) c.put.bins asked ∙ rows_spare (λ u. u.recall) with_least (λ r u. refl) c.put.least with_items
-      ∙ rows_spare (λ u. u.recall) with_item (λ r u. refl) c.put.items t
-
-  bins_left : left.bin ≡ named.bin
-  bins_left = ap (λ (x : Goods). x.2) (goods_left c row t) ∙ rows_spare (λ u. u.bin) with_recall (λ r u. refl) c.put.recalls lotted ∙ rows_spare (λ u. u.bin) with_lot (λ r u. refl) c.put.lots named
-
-  bins_before : asked.bin ≡ t.bin
-  bins_before = rows_spare (λ u. u.bin) with_least (λ r u. refl) c.put.least with_items ∙ rows_spare (λ u. u.bin) with_item (λ r u. refl) c.put.items t
 
   -- what was forgotten before, and what follows the change
   pub rows_written : (old mid : RowsKnown) (followed : Followed) → ForgetsPut c.put old mid → Follows c mid.followed followed → KnowsFollowed t mid.followed → KnowsRows t old → KnowsRows left (record mid { followed = followed })
   rows_written old mid followed forgets follows before known = record {
-    items =
-        known_same (slice_cmp nat_cmp) reverse same_text names_told same_item item_key items_laws.one_key (λ u. u.item) same_text (λ r. r.gtin) (λ by r. refl) with_items left (sym items_left) mid.items.rows
-        (known_spared (slice_cmp nat_cmp) reverse same_text names_told same_item item_key items_laws.one_key (λ u. u.item) same_text (λ r. r.gtin) (λ by r. refl) with_item (λ r u. refl) c.put.items t old.items.rows mid.items.rows forgets.items known.items);
-    least =
-        known_same (slice_cmp nat_cmp) reverse same_text names_told same_least least_key least_laws.one_key (λ u. u.least) same_text (λ r. r.gtin) (λ by r. refl) asked left (sym least_left) mid.least.rows
-        (known_spared (slice_cmp nat_cmp) reverse same_text names_told same_least least_key least_laws.one_key (λ u. u.least) same_text (λ r. r.gtin) (λ by r. refl) with_least (λ r u. refl) c.put.least with_items old.least.rows mid.least.rows forgets.least
-        (known_same (slice_cmp nat_cmp) reverse same_text names_told same_least least_key least_laws.one_key (λ u. u.least) same_text (λ r. r.gtin) (λ by r. refl) t with_items (sym least_before) old.least.rows known.least));
-    recalls =
-        known_same (slice_cmp nat_cmp) reverse same_text names_told same_recall recall_key recalls_laws.one_key (λ u. u.recall) (λ g k. same_text g k.gtin) (λ r. r.lot.gtin) (λ by r. refl) recalled left (sym recalls_left) mid.recalls.rows
-        (known_spared (slice_cmp nat_cmp) reverse same_text names_told same_recall recall_key recalls_laws.one_key (λ u. u.recall) (λ g k. same_text g k.gtin) (λ r. r.lot.gtin) (λ by r. refl) with_recall (λ r u. refl) c.put.recalls lotted old.recalls.rows mid.recalls.rows forgets.recalls
-        (known_same (slice_cmp nat_cmp) reverse same_text names_told same_recall recall_key recalls_laws.one_key (λ u. u.recall) (λ g k. same_text g k.gtin) (λ r. r.lot.gtin) (λ by r. refl) t lotted (sym recalls_before) old.recalls.rows known.recalls));
-    bins =
-        known_same (slice_cmp nat_cmp) reverse same_text names_told same_bin bin_key bins_laws.one_key (λ u. u.bin) same_text (λ r. r.name) (λ by r. refl) named left (sym bins_left) mid.bins.rows
-        (known_spared (slice_cmp nat_cmp) reverse same_text names_told same_bin bin_key bins_laws.one_key (λ u. u.bin) same_text (λ r. r.name) (λ by r. refl) with_bin (λ r u. refl) c.put.bins asked old.bins.rows mid.bins.rows forgets.bins
-        (known_same (slice_cmp nat_cmp) reverse same_text names_told same_bin bin_key bins_laws.one_key (λ u. u.bin) same_text (λ r. r.name) (λ by r. refl) t asked (sym bins_before) old.bins.rows known.bins));
+    items = known_spared Items same_text (λ r. r.gtin) (λ by r. refl) c t left (table_left c t Items) old.items.rows mid.items.rows forgets.items known.items;
+    least = known_spared Least same_text (λ r. r.gtin) (λ by r. refl) c t left (table_left c t Least) old.least.rows mid.least.rows forgets.least known.least;
+    recalls = known_spared Recalls (λ g k. same_text g k.gtin) (λ r. r.lot.gtin) (λ by r. refl) c t left (table_left c t Recalls) old.recalls.rows mid.recalls.rows forgets.recalls known.recalls;
+    bins = known_spared Bins same_text (λ r. r.name) (λ by r. refl) c t left (table_left c t Bins) old.bins.rows mid.bins.rows forgets.bins known.bins;
     followed = followed_written c row t mid.followed followed follows before;
   }

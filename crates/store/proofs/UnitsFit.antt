@@ -1,54 +1,8 @@
 -- The units of the rows of a history fit into their columns.
-use Rattle.std.proofs.Common.{◌≡◌, ℕ, zero, suc, ◌+◌, ◌-◌, ◌≤◌, Bool, true, false, ◌&&◌, List, [], ◌∷◌, find, Option, Some, None, refl, sym, ap, subst, ◌∙◌, arith}
-use Rattle.std.specs.Prelude.{ℤ, pos, negsuc, neg_ℤ, decimal, ⊤, ◌==◌, ◌||◌, nat_le, is_some, if◌then◌else◌, flat_map}
-use Rattle.std.specs.List.{AllByRecursion, list_all}
-use Rattle.std.proofs.lemmas.Bool.{eqb-true}
-use Rattle.std.proofs.lemmas.Bool.Decides.{nat_tests}
-use Rattle.sqlite_keyed.proofs.ListLemmas.{all-append}
-use Rattle.values.specs.Values.{QTY_MAX, is_between, is_gtin, is_name, is_qty, is_counted, is_delta, same_text}
-use Rattle.values.specs.declared.lot.LotId.{LotId}
-use Rattle.commands.specs.Sound.{is_sound, is_order_line, is_lot_id}
-use Rattle.label.specs.Days.{is_day}
-use Rattle.commands.specs.declared.command.OrderLine.{OrderLine}
-use Rattle.commands.specs.declared.key.Key.{Key}
-use Rattle.commands.specs.declared.command.Command.{Command}
-use Rattle.commands.specs.declared.command.Command.TheVariants.{Item, Bin, Receive, Move, Count, Adjust, Order, Urgent, Cancel, Pick, Unpick, Ship, Hold, Release, Recall, OpenDay, Least}
-use Rattle.commands.specs.declared.limits.TheConstants.{ACTS_MAX, UNITS_MAX}
-use Rattle.commands.specs.declared.rows.CardKind.{CardKind}
-use Rattle.commands.specs.declared.rows.CardKind.TheVariants.{Receipt, WriteOn, WriteOff as WrittenOff, Shipment}
-use Rattle.commands.specs.declared.rows.StockRow.{StockRow}
-use Rattle.commands.specs.declared.rows.LineRow.{LineRow}
-use Rattle.commands.specs.declared.rows.StagedRow.{StagedRow}
-use Rattle.commands.specs.declared.rows.ReservedRow.{ReservedRow}
-use Rattle.commands.specs.declared.rows.ShipmentRow.{ShipmentRow}
-use Rattle.commands.specs.declared.rows.ShiplineRow.{ShiplineRow}
-use Rattle.commands.specs.declared.rows.CardRow.{CardRow}
-use Rattle.table_words.specs.Cells.{is_card_units}
-use Rattle.table_words.specs.Stored.{fits_row}
-use Rattle.table_words.specs.Typed.{stock_mapping, line_mapping, staged_mapping, reserved_mapping, shipment_mapping, shipline_mapping, card_mapping}
-use Rattle.machine.specs.Acts.{Act, next_number}
-use Rattle.machine.specs.Postings.{Place, Supplier, InBin, Stage, Shipped, WriteOff, Posting, balance, is_bin, is_stage, is_shipment, is_lot}
-use Rattle.machine.specs.Ledger.{posting, correction, written, cleared, shipped_off, lot_returned, returned, posted, postings, postings_of, made_unshippable}
-use Rattle.machine.specs.Standing.{RETURNS, KnownLot, lots, Placed, orders, order_named, lines_placed, lines_of, is_cancelled, shipments, shipments_so_far}
-use Rattle.machine.specs.Planning.{in_bin, staged_of_lot, item_postings, staged, shipped, shipped_of, reserved}
-use Rattle.machine.specs.Cards.{cards, card_line, card_lines, delivery_note, lot_units_in_house}
-use Rattle.machine.specs.Once.{IsHistory}
-use Rattle.machine.specs.Verdict.{names_item_twice}
-use Rattle.machine.specs.Tables.{if_any, stock_row, line_row, staged_row, reserved_row, shipline_row, card_row}
-use Rattle.machine.proofs.Apart.{any_found}
-use Rattle.machine.proofs.Tests.{and_both, some_one, same_text_refl, is_lot_item}
-use Rattle.machine.proofs.histories.AfterShipping.{shipment_after}
-use Rattle.machine.proofs.histories.Cells.{IsPart, holds_split}
-use Rattle.machine.proofs.histories.ClosedOrders.{served, served_is, served_within_ordered}
-use Rattle.machine.proofs.histories.KnownPlaces.{unknown_shipment_is_empty}
-use Rattle.machine.proofs.histories.LegalHistories.{legal_history}
-use Rattle.machine.proofs.histories.LineLimits.{ordered_within_limit}
-use Rattle.machine.proofs.histories.Needs.{line_qty, needs_of_line, reserved_within_needs, unknown_is_unreserved}
-use Rattle.machine.proofs.histories.Notices.{shipments_apart}
-use Rattle.machine.proofs.histories.Orders.{AllSingle, orders_single}
-use Rattle.rules.proofs.rows.LotUnits.{lot_within_limit, bin_within_limit}
+use Rattle.store.proofs.Words.{◌≡◌, ℕ, zero, suc, ◌+◌, ◌-◌, ◌≤◌, Bool, true, false, ◌&&◌, List, [], ◌∷◌, find, Option, Some, None, refl, sym, ap, subst, ◌∙◌, arith, ℤ, pos, negsuc, neg_ℤ, decimal, ⊤, ◌==◌, ◌||◌, nat_le, is_some, if◌then◌else◌, flat_map, AllByRecursion, list_all, eqb-true, nat_tests, all-append, QTY_MAX, is_between, is_gtin, is_name, is_qty, is_counted, is_delta, same_text, LotId, is_sound, is_order_line, is_lot_id, is_day, OrderLine, Key, Command, Item, Bin, Receive, Move, Count, Adjust, Order, Urgent, Cancel, Pick, Unpick, Ship, Release, Recall, OpenDay, ACTS_MAX, UNITS_MAX, CardKind, WriteOn, WrittenOff, Shipment, StockRow, LineRow, StagedRow, ReservedRow, ShipmentRow, ShiplineRow, CardRow, is_card_units, fits_row, stock_mapping, line_mapping, staged_mapping, reserved_mapping, shipment_mapping, shipline_mapping, card_mapping, Act, next_number, Place, Supplier, InBin, Stage, Shipped, WriteOff, Posting, balance, is_bin, is_stage, is_shipment, is_lot, posting, correction, written, cleared, shipped_off, lot_returned, returned, posted, postings, postings_of, made_unshippable, RETURNS, KnownLot, lots, Placed, orders, order_named, lines_placed, lines_of, is_cancelled, shipments, shipments_so_far, in_bin, staged_of_lot, item_postings, staged, shipped, shipped_of, reserved, cards, card_line, card_lines, delivery_note, lot_units_in_house, IsHistory, names_item_twice, if_any, stock_row, line_row, staged_row, reserved_row, shipline_row, card_row, any_found, and_both, some_one, same_text_refl, is_lot_item, shipment_after, IsPart, holds_split, served, served_is, served_within_ordered, unknown_shipment_is_empty, legal_history, ordered_within_limit, line_qty, needs_of_line, reserved_within_needs, unknown_is_unreserved, shipments_apart, AllSingle, orders_single, lot_within_limit, bin_within_limit, Stays, stays_posting, stays_returned, stays_written, stays_corrected, units_stay}
+use Rattle.commands.specs.declared.command.Command.TheVariants.{Hold, Least}
+use Rattle.commands.specs.declared.rows.CardKind.TheVariants.{Receipt}
 use Rattle.store.proofs.ActsFit.{between, within, number_fits, found_has, mapped_has, lines_of_right, shipments_right}
-use Rattle.store.proofs.ShipmentCards.{Stays, stays_posting, stays_returned, stays_written, stays_corrected, units_stay}
 
 -- ---- rows of units
 

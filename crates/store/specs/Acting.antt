@@ -1,10 +1,14 @@
 -- What an act answers, and what it leaves of the books.
-use Rattle.std.specs.Prelude.{◌≡◌, Bool, if◌then◌else◌, List, Option, Some, Result, Ok, Err, ℤ, IsTrue}
+use Rattle.std.specs.Prelude.{◌≡◌, Bool, if◌then◌else◌, List, Option, Some, None, Result, Ok, Err, ℤ, IsTrue, false}
 use Rattle.sqlite_trees.specs.declared.store.Store.{Ghosts}
 use Rattle.sqlite.specs.Held.{state}
 use Rattle.sqlite.specs.State.{State, HasCleanDisk, KeepsCommit}
 use Rattle.table_words.specs.Steps.{IsReady, Goes}
+use Rattle.table_words.specs.declared.error.TableFault.{TableFault}
+use Rattle.commands.specs.Spelling.{key_text, spelling}
 use Rattle.commands.specs.declared.command.Command.{Command}
+use Rattle.commands.specs.declared.key.Key.{Key}
+use Rattle.commands.specs.declared.rows.RepeatRow.{RepeatRow}
 use Rattle.machine.specs.Acts.{Act}
 use Rattle.machine.specs.Standing.{day_after_command}
 use Rattle.machine.specs.Tables.{tables_of}
@@ -12,10 +16,11 @@ use Rattle.rules.specs.Slices.{IsDecision}
 use Rattle.machine.specs.Verdict.{verdict}
 use Rattle.row_rules.specs.declared.slice.Change.{Change}
 use Rattle.machine.specs.Once as once
-use Rattle.machine.specs.Once.{Outcome, IsHistory, is_key_of, outcome, acts_after}
+use Rattle.machine.specs.Once.{Outcome, IsHistory, is_key_of, bearer, outcome, acts_after}
 use Rattle.slices.specs.Books.{IsBooksOf}
 use Rattle.slices.specs.declared.knowing.Known.{Known}
 use Rattle.store.specs.Books.{KeepsBooks, HoldsBooks}
+use Rattle.store.specs.Faults.{fault_of}
 use Rattle.store.specs.Knowing.{HasKnown, LeavesKnown}
 use Rattle.store.specs.Connected.{Connected}
 use Rattle.store.specs.declared.reply.Reply.{Reply}
@@ -48,13 +53,17 @@ IsActedInside first acts act (Err (Refused why)) old new = once.Refused why ≡ 
 IsActedInside first acts act (Err Store) old new = Unit {0}
 IsActedInside first acts act (Err Foreign) old new = ⊥
 
--- An act within a transaction, under a key of which the acts say so much: of the books of acts it answers and leaves what the
--- machine does, what is known of the tables is not lost, and nothing is committed.
-pub record Acts (act : Act) (IsSo : List Act → Type 0) (known after : Option Known) (result : Result Reply Fault) (old new : State) : Type 0 where
+-- An act within a transaction, on acts of which so much is so: of the books of acts it answers and leaves what the machine does,
+-- what is known of the tables is not lost, and nothing is committed.
+pub record Acts (act : Act) (IsSo : Act → ℤ → List Act → Type 0) (known after : Option Known) (result : Result Reply Fault) (old new : State) : Type 0 where
   pub acted : HasCleanDisk new → IsTrue (is_key_of act.key act.command) → (first : ℤ) (acts : List Act) → IsHistory first acts
-      → (IsTrue old.is_open → IsBooksOf first acts old.now) → (IsTrue old.is_open → HasKnown known old) → IsSo acts → IsActedInside first acts act result old new
+      → (IsTrue old.is_open → IsBooksOf first acts old.now) → (IsTrue old.is_open → HasKnown known old) → IsSo act first acts → IsActedInside first acts act result old new
   pub knows : HasCleanDisk new → (IsTrue old.is_open → IsReady old.now) → LeavesKnown known after result old new
   pub kept : HasCleanDisk new → (IsTrue old.is_open → IsReady old.now) → KeepsCommit old new
+
+-- no act bears its key
+abbrev pub IsNew : Act → ℤ → List Act → Type 0
+IsNew act first acts = bearer act.key acts ≡ None
 
 -- a decision by rows that are read for it, with the faults of the books: memory and the disk may not suffice for them
 abbrev pub IsDecidedByRows : ℤ → Act → List Act → Result Change Fault → Type 0
@@ -62,6 +71,19 @@ IsDecidedByRows first act acts (Ok change) = IsDecision first act acts (Ok chang
 IsDecidedByRows first act acts (Err (Refused why)) = verdict first acts act.command ≡ Some why
 IsDecidedByRows first act acts (Err Store) = Unit {0}
 IsDecidedByRows first act acts (Err Foreign) = ⊥
+
+-- no act bears its key, and this is the decision
+abbrev pub IsDecidedAs : Result Change Fault → Act → ℤ → List Act → Type 0
+IsDecidedAs decision act first acts = IsNew act first acts × IsDecidedByRows first act acts decision
+
+-- the row of `repeats` of an act that is accepted
+abbrev pub repeat_of : Key → Command → Change → RepeatRow
+repeat_of key command change = record { k = key_text key; act = change.meta.acts; spell = spelling command; reply = change.text }
+
+-- the answer, once the change has been written, or was not
+abbrev pub answer_of : Change → Result (Unit {0}) TableFault → Result Reply Fault
+answer_of change (Ok done) = Ok (record { text = change.text; repeated = false })
+answer_of change (Err cause) = Err (fault_of cause)
 
 -- the business day after a command that was accepted, or that came again and so opens no day
 abbrev pub day_left : ℤ → Command → Bool → ℤ

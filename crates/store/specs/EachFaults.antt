@@ -1,6 +1,6 @@
 -- What it is to the books that not all rows were handed over.
-use Rattle.each_row.specs.declared.fault.EachFault.{EachFault as RowsFault}
-use Rattle.each_row.specs.declared.fault.EachFault.TheVariants as rows
+use Rattle.keyed_rows.specs.declared.each_fault.EachFault.{EachFault as RowsFault}
+use Rattle.keyed_rows.specs.declared.each_fault.EachFault.TheVariants as rows
 use Rattle.store.specs.Faults.{fault_of}
 use Rattle.store.specs.declared.each_fault.EachFault.{EachFault}
 use Rattle.store.specs.declared.each_fault.EachFault.TheVariants.{Fault, Stopped}

@@ -1,8 +1,9 @@
 -- What the rows of a file come to, and what they leave of the books.
-use Rattle.std.specs.Prelude.{◌≡◌, ◌+◌, Bool, true, false, List, map, Some, None, Result, Ok, Err, ℤ, IsTrue, All}
+use Rattle.std.specs.Prelude.{◌≡◌, ◌+◌, Bool, true, false, List, map, Option, Some, None, Result, Ok, Err, ℤ, IsTrue, All}
 use Rattle.sqlite_trees.specs.declared.store.Store.{Ghosts}
-use Rattle.sqlite.specs.State.{State}
+use Rattle.sqlite.specs.State.{State, HasCleanDisk, KeepsCommit}
 use Rattle.sqlite.specs.Held.{state}
+use Rattle.table_words.specs.Steps.{IsReady}
 use Rattle.commands.specs.declared.key.Key.{Key}
 use Rattle.commands.specs.declared.command.Command.{Command}
 use Rattle.machine.specs.Acts.{Act}
@@ -10,8 +11,10 @@ use Rattle.machine.specs.Standing.{today}
 use Rattle.machine.specs.Once as once
 use Rattle.machine.specs.Once.{IsHistory, is_key_of, outcome, acts_after, tallied, FileOutcome, Taken, RefusedRow, file_outcome, acts_after_file}
 use Rattle.slices.specs.Books.{IsBooksOf}
+use Rattle.slices.specs.declared.knowing.Known.{Known}
 use Rattle.store.specs.Acting.{day_left}
 use Rattle.store.specs.Books.{KeepsBooks, HoldsBooks}
+use Rattle.store.specs.Knowing.{HasKnown, GoesOnKnown}
 use Rattle.store.specs.Connected.{Connected}
 use Rattle.store.specs.declared.reply.Reply.{Reply}
 use Rattle.store.specs.declared.fault.Fault.{Fault}
@@ -84,6 +87,13 @@ IsRowTaken first acts act so_far (Err (Refused row why)) old new = (tallied (tal
 IsRowTaken first acts act so_far (Err Store) old new = Unit {0}
 IsRowTaken first acts act so_far (Err Foreign) old new = ⊥
 
+-- such a row within the transaction: what is known of the tables is so where it goes on, and nothing is committed
+pub record TakesRow (act : Act) (known after : Option Known) (so_far : Filed) (result : Result Filed RowFault) (old new : State) : Type 0 where
+  pub taken : HasCleanDisk new → IsTrue (is_key_of act.key act.command) → (first : ℤ) (acts : List Act) → IsHistory first acts
+      → IsBooksOf first acts old.now → HasKnown known old → IsRowTaken first acts act so_far result old new
+  pub knows : HasCleanDisk new → IsReady old.now → GoesOnKnown known after result old new
+  pub kept : HasCleanDisk new → IsReady old.now → KeepsCommit old new
+
 -- all rows
 abbrev pub IsFiledInside : ℤ → List Act → List Act → ℤ → Result Filed RowFault → State → State → Type 0
 IsFiledInside first acts rows day (Ok filed) old new =
@@ -91,6 +101,13 @@ IsFiledInside first acts rows day (Ok filed) old new =
 IsFiledInside first acts rows day (Err (Refused row why)) old new = RefusedRow row why ≡ file_outcome first acts rows
 IsFiledInside first acts rows day (Err Store) old new = Unit {0}
 IsFiledInside first acts rows day (Err Foreign) old new = ⊥
+
+-- all rows within the transaction, likewise
+pub record Files (rows : List (Key × Command)) (day : ℤ) (known after : Option Known) (result : Result Filed RowFault) (old new : State) : Type 0 where
+  pub filed : HasCleanDisk new → AreKeysOf rows → (first : ℤ) (acts : List Act) → IsHistory first acts
+      → (IsTrue old.is_open → IsBooksOf first acts old.now) → (IsTrue old.is_open → HasKnown known old) → IsFiledInside first acts (rows_of rows) day result old new
+  pub knows : HasCleanDisk new → (IsTrue old.is_open → IsReady old.now) → GoesOnKnown known after result old new
+  pub kept : HasCleanDisk new → (IsTrue old.is_open → IsReady old.now) → KeepsCommit old new
 
 -- and once they are committed, or undone
 abbrev pub IsFiledOn : ℤ → List Act → List Act → ℤ → Result Filed RowFault → State → Type 0

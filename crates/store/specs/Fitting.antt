@@ -15,10 +15,10 @@ use Rattle.commands.specs.declared.rows.ShipmentRow.{ShipmentRow}
 use Rattle.commands.specs.declared.rows.ShiplineRow.{ShiplineRow}
 use Rattle.commands.specs.declared.rows.CardRow.{CardRow}
 use Rattle.commands.specs.declared.rows.RepeatRow.{RepeatRow}
-use Rattle.goods_tables.specs.Meta.{fits_meta}
+use Rattle.tables.specs.Meta.{fits_meta}
 use Rattle.table_words.specs.Stored.{fits_row}
 use Rattle.table_words.specs.Typed.{lot_mapping, recall_mapping, stock_mapping, order_mapping, urgent_mapping, line_mapping, staged_mapping, reserved_mapping, shipment_mapping, shipline_mapping, card_mapping}
-use Rattle.history_tables.specs.Repeats.{fits_repeat}
+use Rattle.tables.specs.Repeats.{fits_repeat}
 use Rattle.machine.specs.Acts.{Act}
 use Rattle.machine.specs.Once.{IsHistory}
 use Rattle.machine.specs.Tables.{tables_of}

@@ -1,4 +1,5 @@
 pub mod Faults
+pub mod Inside
 pub mod Acting
 pub mod Filing
 pub mod Answers
@@ -8,7 +9,6 @@ pub mod Opening
 pub mod Showing
 pub mod Queries
 pub mod Heads
-pub mod Shipments
 pub mod EachFaults
 pub mod Handing
 pub mod ActRows

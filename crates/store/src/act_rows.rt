@@ -1,6 +1,6 @@
 //! The rows of the acts, one at a time.
 
-ghost use Rattle.std.specs.Prelude.{◌≡◌, false, ℤ, List};
+ghost use Rattle.std.specs.Prelude.{◌≡◌, false, min, ℤ, pos, List};
 ghost use Rattle.sqlite.specs.State.{HasCleanDisk, Survives, KeepsCommit};
 ghost use Rattle.sqlite.specs.Held.{state};
 ghost use Rattle.machine.specs.Acts.{Act};
@@ -12,9 +12,9 @@ ghost use Rattle.store.specs.Handing.{NoBooks};
 use crate::each_fault::EachFault;
 use crate::outside::find_open_outside;
 use commands::{RepeatRow, Sink};
-use history_tables::repeats::Repeats;
 use sqlite::{Alter, Connection};
 use std::alloc::Global;
+use tables::repeats::Repeats;
 use whole_tables::{each_above, each_of_all};
 
 /// Hands the rows of `repeats` to the sink, in the order in which they are stored, until it stops. Nothing is changed.
@@ -25,7 +25,7 @@ pub fn hand_acts<S: Alter, K: Sink<RepeatRow>>(
 ) -> Result<(), EachFault>
     ensures outside { conn.old.in_transaction ≡ false → conn.new.in_transaction ≡ false }
     ensures handed { HasCleanDisk (state S.Store conn.new) → (first : ℤ) (acts : List Act) → IsHistory first acts → KeepsBooks first acts (state S.Store conn.old)
-        → AreActsHanded first acts K.takes K.stops sink.old sink.new result × KeepsBooks first acts (state S.Store conn.new) }
+        → AreActsHanded first acts (state S.Store conn.old) (state S.Store conn.new) K.takes K.stops sink.old sink.new result × KeepsBooks first acts (state S.Store conn.new) }
     ensures stays { HasCleanDisk (state S.Store conn.new) → IsSettled (state S.Store conn.old) → KeepsCommit (state S.Store conn.old) (state S.Store conn.new) × IsSettled (state S.Store conn.new) }
     ensures survives { Survives (state S.Store conn.old) (state S.Store conn.new) (NoBooks (state S.Store conn.old)) }
 {
@@ -46,14 +46,21 @@ pub fn hand_acts_above<S: Alter, K: Sink<RepeatRow>>(
 ) -> Result<(), EachFault>
     ensures outside { conn.old.in_transaction ≡ false → conn.new.in_transaction ≡ false }
     ensures handed { HasCleanDisk (state S.Store conn.new) → (first : ℤ) (acts : List Act) → IsHistory first acts → KeepsBooks first acts (state S.Store conn.old)
-        → AreLaterActsHanded first acts K.takes K.stops sink.old sink.new result × KeepsBooks first acts (state S.Store conn.new) }
+        → AreLaterActsHanded first acts number (state S.Store conn.old) (state S.Store conn.new) K.takes K.stops sink.old sink.new result × KeepsBooks first acts (state S.Store conn.new) }
     ensures stays { HasCleanDisk (state S.Store conn.new) → IsSettled (state S.Store conn.old) → KeepsCommit (state S.Store conn.old) (state S.Store conn.new) × IsSettled (state S.Store conn.new) }
     ensures survives { Survives (state S.Store conn.old) (state S.Store conn.new) (NoBooks (state S.Store conn.old)) }
 {
-    let rowid = i64::try_from(number).unwrap_or(i64::MAX);
+    let rowid = rowid_of(number);
     find_open_outside(conn)?;
     match each_above::<Repeats, S, K>(alloc, conn, &rowid, sink) {
         Ok(()) => Ok(()),
         Err(fault) => Err(EachFault::from(fault)),
     }
+}
+
+/// The rowid of this number; of one above all rowids the largest.
+fn rowid_of(number: u64) -> i64
+    ensures { result ≡ pos (min number 9_223_372_036_854_775_807) }
+{
+    number.min(i64::MAX as u64) as i64
 }

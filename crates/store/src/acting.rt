@@ -1,20 +1,17 @@
 //! An act as one transaction.
 
-ghost use Rattle.std.specs.Prelude.{◌≡◌, ⊤, false, None, Some, ℤ, List, IsTrue, OnOk, OnErr, IfOk, IfErr};
-ghost use Rattle.sqlite.specs.State.{HasCleanDisk, Survives, KeepsCommit, IsUnchanged};
+ghost use Rattle.std.specs.Prelude.{◌≡◌, ⊤, false, Some, Ok, ℤ, List, IsTrue, OnErr};
+ghost use Rattle.sqlite.specs.State.{HasCleanDisk, Survives, KeepsCommit};
 ghost use Rattle.sqlite.specs.Held.{state};
-ghost use Rattle.commands.specs.Spelling.{key_text, spelling};
-ghost use Rattle.table_words.specs.Steps.{IsReady, Goes};
-ghost use Rattle.table_words.specs.Typed.{tables_in, with_repeat};
+ghost use Rattle.table_words.specs.Typed.{with_repeat};
+ghost use Rattle.keyed_rows.specs.Writes.{Writes};
 ghost use Rattle.machine.specs.Acts.{Act};
-ghost use Rattle.machine.specs.Once.{IsHistory, is_key_of, bearer, acts_after};
-ghost use Rattle.rules.specs.Slices.{AreOnce, applied};
+ghost use Rattle.machine.specs.Once.{IsHistory, is_key_of, acts_after};
 ghost use Rattle.changes.specs.Written.{change_written};
-ghost use Rattle.slices.specs.Books.{IsBooksOf};
-ghost use Rattle.slices.specs.Slicing.{HoldsOf};
 ghost use Rattle.store.specs.Books.{AreBooks, KeepsBooks};
-ghost use Rattle.store.specs.Acting.{IsActedOn, Acts, IsDecidedByRows};
-ghost use Rattle.store.specs.Knowing.{IsKnown, LeavesKnown};
+ghost use Rattle.store.specs.Inside.{IsInside, IsInsideOpen};
+ghost use Rattle.store.specs.Acting.{IsActedOn, Acts, IsNew, IsDecidedAs, repeat_of, answer_of};
+ghost use Rattle.store.specs.Knowing.{IsKnown};
 
 use crate::earlier_reply::repeat_reply;
 use crate::known::{follow, forget_undone, known_in};
@@ -27,6 +24,7 @@ use rules::{Change, decide};
 use slices::{Known, read_slice};
 use sqlite::{Alter, Connection, Transaction};
 use std::alloc::Global;
+use table_words::error::TableFault;
 
 /// Acts on the command under its key, in one transaction.
 ///
@@ -68,8 +66,7 @@ pub fn act_inside<S: Alter>(
     command: &Command,
 ) -> Result<Reply, Fault>
     ensures same_reference { tx.new.conn.ghost_name ≡ tx.old.conn.ghost_name }
-    ensures acts { Acts (record { key = key.now; command = command.now }) (λ _. ⊤) known.old known.new result (state S.Store tx.old.conn.now) (state S.Store tx.new.conn.now) }
-    ensures survives { Survives (state S.Store tx.old.conn.now) (state S.Store tx.new.conn.now) (λ _. ⊥) }
+    ensures acts { IsInside (Acts (record { key = key.now; command = command.now }) (λ _ _ _. ⊤) known.old known.new result) (state S.Store tx.old.conn.now) (state S.Store tx.new.conn.now) }
 {
     find_open(tx)?;
     act_open(alloc, tx, known, key, command)
@@ -84,8 +81,7 @@ fn act_open<S: Alter>(
     command: &Command,
 ) -> Result<Reply, Fault>
     ensures same_reference { tx.new.conn.ghost_name ≡ tx.old.conn.ghost_name }
-    ensures acts { IsTrue (state S.Store tx.old.conn.now).is_open → Acts (record { key = key.now; command = command.now }) (λ _. ⊤) known.old known.new result (state S.Store tx.old.conn.now) (state S.Store tx.new.conn.now) }
-    ensures survives { Survives (state S.Store tx.old.conn.now) (state S.Store tx.new.conn.now) (λ _. ⊥) }
+    ensures acts { IsInsideOpen (Acts (record { key = key.now; command = command.now }) (λ _ _ _. ⊤) known.old known.new result) (state S.Store tx.old.conn.now) (state S.Store tx.new.conn.now) }
 {
     let found = act_under_key(alloc, tx, &key.text())?;
     match found {
@@ -103,8 +99,7 @@ fn act_anew<S: Alter>(
     command: &Command,
 ) -> Result<Reply, Fault>
     ensures same_reference { tx.new.conn.ghost_name ≡ tx.old.conn.ghost_name }
-    ensures acts { IsTrue (state S.Store tx.old.conn.now).is_open → Acts (record { key = key.now; command = command.now }) (λ acts. bearer key.now acts ≡ None) known.old known.new result (state S.Store tx.old.conn.now) (state S.Store tx.new.conn.now) }
-    ensures survives { Survives (state S.Store tx.old.conn.now) (state S.Store tx.new.conn.now) (λ _. ⊥) }
+    ensures acts { IsInsideOpen (Acts (record { key = key.now; command = command.now }) IsNew known.old known.new result) (state S.Store tx.old.conn.now) (state S.Store tx.new.conn.now) }
 {
     let mut found = known_in(alloc, tx, known)?;
     let reply = act_known(alloc, tx, &mut found, key, command);
@@ -112,7 +107,7 @@ fn act_anew<S: Alter>(
     reply
 }
 
-// A command whose key is new: its change is decided, and then written with its answer.
+// A command whose key is new: it is decided by the rows that it touches.
 fn act_known<S: Alter>(
     alloc: Global,
     tx: &mut Transaction<'_, S>,
@@ -121,41 +116,36 @@ fn act_known<S: Alter>(
     command: &Command,
 ) -> Result<Reply, Fault>
     ensures same_reference { tx.new.conn.ghost_name ≡ tx.old.conn.ghost_name }
-    ensures acts { IsTrue (state S.Store tx.old.conn.now).is_open → Acts (record { key = key.now; command = command.now }) (λ acts. bearer key.now acts ≡ None) (Some known.old) (Some known.new) result (state S.Store tx.old.conn.now) (state S.Store tx.new.conn.now) }
-    ensures survives { Survives (state S.Store tx.old.conn.now) (state S.Store tx.new.conn.now) (λ _. ⊥) }
+    ensures acts { IsInsideOpen (Acts (record { key = key.now; command = command.now }) IsNew (Some known.old) (Some known.new) result) (state S.Store tx.old.conn.now) (state S.Store tx.new.conn.now) }
 {
-    let change = change_of(alloc, tx, known, key, command)?;
-    let reply = accept_known(alloc, tx, known, key, command, &change);
+    let slice = read_slice(alloc, tx, known, command)?;
+    let change = decide(alloc, &slice, key, command);
     // A call, and before any `?`: dropped at the end of its scope it is dropped field by field (docs/GATE.md).
-    drop(change);
-    reply
+    drop(slice);
+    act_decided(alloc, tx, known, key, command, change.map_err(Fault::from))
 }
 
-// The decision on a command whose key is new, by the rows that it touches.
-fn change_of<S: Alter>(
+// A command on which there is a decision: if it is accepted, it is written.
+fn act_decided<S: Alter>(
     alloc: Global,
     tx: &mut Transaction<'_, S>,
     known: &mut Known,
     key: &Key,
     command: &Command,
-) -> Result<Change, Fault>
+    decision: Result<Change, Fault>,
+) -> Result<Reply, Fault>
     ensures same_reference { tx.new.conn.ghost_name ≡ tx.old.conn.ghost_name }
-    ensures decided { HasCleanDisk (state S.Store tx.new.conn.now) → IsTrue (is_key_of key.now command.now) → (first : ℤ) (acts : List Act) → IsHistory first acts
-        → IsTrue (state S.Store tx.old.conn.now).is_open → IsBooksOf first acts (state S.Store tx.old.conn.now).now → HoldsOf known.old (tables_in (state S.Store tx.old.conn.now).now.trees) → bearer key.now acts ≡ None
-        → IsDecidedByRows first (record { key = key.now; command = command.now }) acts result }
-    ensures holds { HasCleanDisk (state S.Store tx.new.conn.now) → IsReady (state S.Store tx.old.conn.now).now → IsTrue (state S.Store tx.old.conn.now).is_open
-        → HoldsOf known.old (tables_in (state S.Store tx.old.conn.now).now.trees) → HoldsOf known.new (tables_in (state S.Store tx.old.conn.now).now.trees) }
-    ensures same { HasCleanDisk (state S.Store tx.new.conn.now) → IsReady (state S.Store tx.old.conn.now).now → IsTrue (state S.Store tx.old.conn.now).is_open
-        → OnOk result (IsUnchanged (state S.Store tx.old.conn.now) (state S.Store tx.new.conn.now)) }
-    ensures kept { HasCleanDisk (state S.Store tx.new.conn.now) → IsReady (state S.Store tx.old.conn.now).now → IsTrue (state S.Store tx.old.conn.now).is_open
-        → KeepsCommit (state S.Store tx.old.conn.now) (state S.Store tx.new.conn.now) }
-    ensures survives { Survives (state S.Store tx.old.conn.now) (state S.Store tx.new.conn.now) (λ _. ⊥) }
+    ensures acts { IsInsideOpen (Acts (record { key = key.now; command = command.now }) (IsDecidedAs decision) (Some known.old) (Some known.new) result) (state S.Store tx.old.conn.now) (state S.Store tx.new.conn.now) }
 {
-    let slice = read_slice(alloc, tx, known, command)?;
-    let change = decide(alloc, &slice, key, command);
-    // (as `change` above)
-    drop(slice);
-    change.map_err(Fault::from)
+    match decision {
+        Ok(change) => {
+            let reply = accept_known(alloc, tx, known, key, command, &change);
+            // (as `slice` above)
+            drop(change);
+            reply
+        }
+        Err(fault) => Err(fault),
+    }
 }
 
 // Writes what an accepted command changes; the orders that it opens, and the items and bins that it makes, are known before,
@@ -169,21 +159,25 @@ fn accept_known<S: Alter>(
     change: &Change,
 ) -> Result<Reply, Fault>
     ensures same_reference { tx.new.conn.ghost_name ≡ tx.old.conn.ghost_name }
-    ensures done { HasCleanDisk (state S.Store tx.new.conn.now) → IsReady (state S.Store tx.old.conn.now).now → IsTrue (state S.Store tx.old.conn.now).is_open → AreOnce change.now.put
-        → OnOk result (Goes (λ t. with_repeat (record { k = key_text key.now; act = change.now.meta.acts; spell = spelling command.now; reply = change.now.text }) (applied change.now t)) (state S.Store tx.old.conn.now) (state S.Store tx.new.conn.now)) }
-    ensures told { IfOk result (λ reply. reply ≡ record { text = change.now.text; repeated = false }) }
-    ensures known { HasCleanDisk (state S.Store tx.new.conn.now) → IsReady (state S.Store tx.old.conn.now).now → IsTrue (state S.Store tx.old.conn.now).is_open
-        → LeavesKnown (Some known.old) (Some known.new) result (state S.Store tx.old.conn.now) (state S.Store tx.new.conn.now) }
-    ensures fault { HasCleanDisk (state S.Store tx.new.conn.now) → IsTrue (state S.Store tx.old.conn.now).is_open → (first : ℤ) (acts : List Act) → IsBooksOf first acts (state S.Store tx.old.conn.now).now
-        → IfErr result (λ e. e ≡ Fault.Store) }
-    ensures kept { HasCleanDisk (state S.Store tx.new.conn.now) → IsReady (state S.Store tx.old.conn.now).now → IsTrue (state S.Store tx.old.conn.now).is_open
-        → KeepsCommit (state S.Store tx.old.conn.now) (state S.Store tx.new.conn.now) }
-    ensures survives { Survives (state S.Store tx.old.conn.now) (state S.Store tx.new.conn.now) (λ _. ⊥) }
+    ensures acts { IsInsideOpen (Acts (record { key = key.now; command = command.now }) (IsDecidedAs (Ok change.now)) (Some known.old) (Some known.new) result) (state S.Store tx.old.conn.now) (state S.Store tx.new.conn.now) }
 {
     known.add_change(alloc, tx, &change.put)?;
-    let reply = accept(alloc, tx, key, command, change);
-    follow(known, change, &reply);
-    reply
+    let written = accept(alloc, tx, key, command, change);
+    follow(known, change, &written);
+    answer_to(change, written)
+}
+
+// The answer to an accepted command, once what it changes has been written, or was not.
+fn answer_to(change: &Change, written: Result<(), TableFault>) -> Result<Reply, Fault>
+    ensures { result ≡ answer_of change.now written }
+{
+    match written {
+        Ok(()) => Ok(Reply {
+            text: change.text,
+            repeated: false,
+        }),
+        Err(fault) => Err(Fault::from(fault)),
+    }
 }
 
 // Writes what an accepted command changes, and then its row of `repeats`.
@@ -193,22 +187,11 @@ fn accept<S: Alter>(
     key: &Key,
     command: &Command,
     change: &Change,
-) -> Result<Reply, Fault>
+) -> Result<(), TableFault>
     ensures same_reference { tx.new.conn.ghost_name ≡ tx.old.conn.ghost_name }
-    ensures done { HasCleanDisk (state S.Store tx.new.conn.now) → IsReady (state S.Store tx.old.conn.now).now → AreOnce change.now.put
-        → OnOk result (Goes (λ t. with_repeat (record { k = key_text key.now; act = change.now.meta.acts; spell = spelling command.now; reply = change.now.text }) (applied change.now t)) (state S.Store tx.old.conn.now) (state S.Store tx.new.conn.now)) }
-    ensures written { HasCleanDisk (state S.Store tx.new.conn.now) → IsReady (state S.Store tx.old.conn.now).now
-        → OnOk result (Goes (λ t. with_repeat (record { k = key_text key.now; act = change.now.meta.acts; spell = spelling command.now; reply = change.now.text }) (change_written change.now t)) (state S.Store tx.old.conn.now) (state S.Store tx.new.conn.now)) }
-    ensures told { IfOk result (λ reply. reply ≡ record { text = change.now.text; repeated = false }) }
-    ensures fault { IfErr result (λ e. e ≡ Fault.Store) }
-    ensures kept { HasCleanDisk (state S.Store tx.new.conn.now) → KeepsCommit (state S.Store tx.old.conn.now) (state S.Store tx.new.conn.now) }
-    ensures survives { Survives (state S.Store tx.old.conn.now) (state S.Store tx.new.conn.now) (λ _. ⊥) }
+    ensures writes { Writes (λ t. with_repeat (repeat_of key.now command.now change.now) (change_written change.now t)) (state S.Store tx.old.conn.now) (state S.Store tx.new.conn.now) result }
 {
     let spelled = spell(alloc, command)?;
     write_change(alloc, tx, change)?;
-    keep_act(tx, key, Listed::from_vec(spelled), change)?;
-    Ok(Reply {
-        text: change.text,
-        repeated: false,
-    })
+    keep_act(tx, key, Listed::from_vec(spelled), change)
 }

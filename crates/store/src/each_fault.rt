@@ -2,7 +2,7 @@
 
 use crate::Fault;
 use commands::Stop;
-use each_row::EachFault as RowsFault;
+use keyed_rows::EachFault as RowsFault;
 
 /// Why not all records were handed over. The tables are as they were.
 #[derive(Clone, Copy, PartialEq, Eq, Debug)]

@@ -1,16 +1,15 @@
 //! The rows of a file as one transaction.
 
-ghost use Rattle.std.specs.Prelude.{◌≡◌, false, ◌+◌, ◌<◌, ◌≤◌, ℤ, List, length, IsTrue, IfOk, OnOk, OnErr};
+ghost use Rattle.std.specs.Prelude.{◌≡◌, false, ◌+◌, ◌<◌, ◌≤◌, ℤ, List, length, IfOk, OnOk, OnErr};
 ghost use Rattle.sqlite.specs.State.{HasCleanDisk, Survives, KeepsCommit};
 ghost use Rattle.sqlite.specs.Held.{state};
-ghost use Rattle.table_words.specs.Steps.{IsReady};
 ghost use Rattle.machine.specs.Acts.{Act};
-ghost use Rattle.machine.specs.Once.{IsHistory, is_key_of, acts_after_file};
+ghost use Rattle.machine.specs.Once.{IsHistory, acts_after_file};
 ghost use Rattle.machine.specs.Machine.{AllSound};
-ghost use Rattle.slices.specs.Books.{IsBooksOf};
 ghost use Rattle.store.specs.Books.{AreBooks, KeepsBooks, IsSettled};
-ghost use Rattle.store.specs.Knowing.{HasKnown, IsKnown, GoesOnKnown};
-ghost use Rattle.store.specs.Filing.{rows_of, AreKeysOf, counted as counted_lem, fault_at as fault_at_lem, with_row as with_row_lem, IsRowTaken, IsFiledInside, IsFiledOn};
+ghost use Rattle.store.specs.Inside.{IsInside, IsInsideOpen};
+ghost use Rattle.store.specs.Knowing.{IsKnown};
+ghost use Rattle.store.specs.Filing.{rows_of, AreKeysOf, counted as counted_lem, fault_at as fault_at_lem, with_row as with_row_lem, TakesRow, Files, IsFiledOn};
 
 use crate::acting::act_inside;
 use crate::day::day_left;
@@ -78,13 +77,7 @@ fn file_inside<S: Alter>(
 ) -> Result<Filed, RowFault>
     requires few { length rows.now ≤ 1000 }
     ensures same_reference { tx.new.conn.ghost_name ≡ tx.old.conn.ghost_name }
-    ensures filed { HasCleanDisk (state S.Store tx.new.conn.now) → AreKeysOf rows.now → (first : ℤ) (acts : List Act) → IsHistory first acts
-        → (IsTrue (state S.Store tx.old.conn.now).is_open → IsBooksOf first acts (state S.Store tx.old.conn.now).now) → (IsTrue (state S.Store tx.old.conn.now).is_open → HasKnown known.old (state S.Store tx.old.conn.now))
-        → IsFiledInside first acts (rows_of rows.now) day result (state S.Store tx.old.conn.now) (state S.Store tx.new.conn.now) }
-    ensures known { HasCleanDisk (state S.Store tx.new.conn.now) → (IsTrue (state S.Store tx.old.conn.now).is_open → IsReady (state S.Store tx.old.conn.now).now)
-        → GoesOnKnown known.old known.new result (state S.Store tx.old.conn.now) (state S.Store tx.new.conn.now) }
-    ensures kept { HasCleanDisk (state S.Store tx.new.conn.now) → (IsTrue (state S.Store tx.old.conn.now).is_open → IsReady (state S.Store tx.old.conn.now).now) → KeepsCommit (state S.Store tx.old.conn.now) (state S.Store tx.new.conn.now) }
-    ensures survives { Survives (state S.Store tx.old.conn.now) (state S.Store tx.new.conn.now) (λ _. ⊥) }
+    ensures files { IsInside (Files rows.now day known.old known.new result) (state S.Store tx.old.conn.now) (state S.Store tx.new.conn.now) }
 {
     match find_open(tx) {
         Ok(()) => take_rows(alloc, tx, known, day, rows),
@@ -102,13 +95,7 @@ fn take_rows<S: Alter>(
 ) -> Result<Filed, RowFault>
     requires few { length rows.now ≤ 1000 }
     ensures same_reference { tx.new.conn.ghost_name ≡ tx.old.conn.ghost_name }
-    ensures filed { HasCleanDisk (state S.Store tx.new.conn.now) → AreKeysOf rows.now → (first : ℤ) (acts : List Act) → IsHistory first acts
-        → IsBooksOf first acts (state S.Store tx.old.conn.now).now → HasKnown known.old (state S.Store tx.old.conn.now)
-        → IsFiledInside first acts (rows_of rows.now) day result (state S.Store tx.old.conn.now) (state S.Store tx.new.conn.now) }
-    ensures known { HasCleanDisk (state S.Store tx.new.conn.now) → IsReady (state S.Store tx.old.conn.now).now → IsTrue (state S.Store tx.old.conn.now).is_open
-        → GoesOnKnown known.old known.new result (state S.Store tx.old.conn.now) (state S.Store tx.new.conn.now) }
-    ensures kept { HasCleanDisk (state S.Store tx.new.conn.now) → IsReady (state S.Store tx.old.conn.now).now → KeepsCommit (state S.Store tx.old.conn.now) (state S.Store tx.new.conn.now) }
-    ensures survives { Survives (state S.Store tx.old.conn.now) (state S.Store tx.new.conn.now) (λ _. ⊥) }
+    ensures files { IsInsideOpen (Files rows.now day known.old known.new result) (state S.Store tx.old.conn.now) (state S.Store tx.new.conn.now) }
 {
     let mut filed = Filed {
         tally: Tally {
@@ -133,14 +120,8 @@ fn take_row<S: Alter>(
 ) -> Result<Filed, RowFault>
     requires few { so_far.tally.accepted + so_far.tally.repeated < 1000 }
     ensures same_reference { tx.new.conn.ghost_name ≡ tx.old.conn.ghost_name }
-    ensures taken { HasCleanDisk (state S.Store tx.new.conn.now) → IsTrue (is_key_of row.now.0 row.now.1) → (first : ℤ) (acts : List Act) → IsHistory first acts
-        → IsBooksOf first acts (state S.Store tx.old.conn.now).now → HasKnown known.old (state S.Store tx.old.conn.now)
-        → IsRowTaken first acts (record { key = row.now.0; command = row.now.1 }) so_far result (state S.Store tx.old.conn.now) (state S.Store tx.new.conn.now) }
-    ensures known { HasCleanDisk (state S.Store tx.new.conn.now) → IsReady (state S.Store tx.old.conn.now).now
-        → GoesOnKnown known.old known.new result (state S.Store tx.old.conn.now) (state S.Store tx.new.conn.now) }
+    ensures takes { IsInside (TakesRow (record { key = row.now.0; command = row.now.1 }) known.old known.new so_far result) (state S.Store tx.old.conn.now) (state S.Store tx.new.conn.now) }
     ensures count { IfOk result (λ filed. filed.tally.accepted + filed.tally.repeated ≡ so_far.tally.accepted + so_far.tally.repeated + 1) }
-    ensures kept { HasCleanDisk (state S.Store tx.new.conn.now) → IsReady (state S.Store tx.old.conn.now).now → KeepsCommit (state S.Store tx.old.conn.now) (state S.Store tx.new.conn.now) }
-    ensures survives { Survives (state S.Store tx.old.conn.now) (state S.Store tx.new.conn.now) (λ _. ⊥) }
 {
     every_command_is_sound(&row.1);
     every_key_is_sound(row.0);

@@ -1,54 +1,44 @@
 //! What is known of the books beside their tables: read where it has not been yet, and after a change.
 
-ghost use Rattle.std.specs.Prelude.{◌≡◌, None, ℤ, List, IsTrue, IfSome, OnOk, OnErr, IfOk, IfErr};
-ghost use Rattle.sqlite.specs.State.{HasCleanDisk, Survives, KeepsCommit, IsUnchanged};
+ghost use Rattle.std.specs.Prelude.{◌≡◌, None, IfSome, OnOk, OnErr, IfOk, IfErr};
 ghost use Rattle.sqlite.specs.Held.{state};
-ghost use Rattle.table_words.specs.Steps.{IsReady};
-ghost use Rattle.table_words.specs.Typed.{tables_in};
 ghost use Rattle.commands.specs.Tables.{Tables};
-ghost use Rattle.machine.specs.Acts.{Act};
-ghost use Rattle.slices.specs.Books.{IsBooksOf};
 ghost use Rattle.slices.specs.Following.{Follows};
+ghost use Rattle.slices.specs.Reading.{IsRead};
 ghost use Rattle.slices.specs.Slicing.{HoldsOf, HoldsBeside};
-ghost use Rattle.store.specs.Knowing.{HasKnown, HasLeft};
+ghost use Rattle.queries.specs.Asked.{IsKnownOf};
+ghost use Rattle.store.specs.Knowing.{HasLeft};
 
 use crate::{Fault, Reply};
 use rules::Change;
 use slices::{Known, RowsKnown};
 use sqlite::{Alter, Transaction};
 use std::alloc::Global;
+use table_words::error::TableFault;
 
 /// What is known of the books, taken out; where nothing is yet, it is read from the tables.
 pub fn known_in<S: Alter>(
     alloc: Global,
     tx: &mut Transaction<'_, S>,
     known: &mut Option<Known>,
-) -> Result<Known, Fault>
+) -> Result<Known, TableFault>
     ensures same_reference { tx.new.conn.ghost_name ≡ tx.old.conn.ghost_name }
-    ensures known { HasCleanDisk (state S.Store tx.new.conn.now) → IsReady (state S.Store tx.old.conn.now).now → IsTrue (state S.Store tx.old.conn.now).is_open
-        → HasKnown known.old (state S.Store tx.old.conn.now) → IfOk result (λ found. HoldsOf found (tables_in (state S.Store tx.old.conn.now).now.trees)) }
+    ensures read { IsRead (λ t found. IsKnownOf known.old t → HoldsOf found t) (state S.Store tx.old.conn.now) (state S.Store tx.new.conn.now) result }
     ensures taken { known.new ≡ None }
-    ensures fault { HasCleanDisk (state S.Store tx.new.conn.now) → IsTrue (state S.Store tx.old.conn.now).is_open → (first : ℤ) (acts : List Act) → IsBooksOf first acts (state S.Store tx.old.conn.now).now
-        → IfErr result (λ e. e ≡ Fault.Store) }
-    ensures same { HasCleanDisk (state S.Store tx.new.conn.now) → IsReady (state S.Store tx.old.conn.now).now → IsTrue (state S.Store tx.old.conn.now).is_open
-        → OnOk result (IsUnchanged (state S.Store tx.old.conn.now) (state S.Store tx.new.conn.now)) }
-    ensures kept { HasCleanDisk (state S.Store tx.new.conn.now) → IsReady (state S.Store tx.old.conn.now).now → IsTrue (state S.Store tx.old.conn.now).is_open
-        → KeepsCommit (state S.Store tx.old.conn.now) (state S.Store tx.new.conn.now) }
-    ensures survives { Survives (state S.Store tx.old.conn.now) (state S.Store tx.new.conn.now) (λ _. ⊥) }
 {
     match known.take() {
         Some(found) => Ok(found),
-        None => Known::read(alloc, tx).map_err(Fault::from),
+        None => Known::read(alloc, tx),
     }
 }
 
 /// Once a change has been written, what follows what is written has its rows.
-pub fn follow(known: &mut Known, change: &Change, reply: &Result<Reply, Fault>)
+pub fn follow(known: &mut Known, change: &Change, written: &Result<(), TableFault>)
     ensures same { known.new ≡ record known.old { rows = record known.old.rows { followed = known.new.rows.followed } } }
-    ensures follows { IfOk reply.now (λ _. Follows change.now known.old.rows.followed known.new.rows.followed) }
-    ensures unwritten { IfErr reply.now (λ _. known.new ≡ known.old) }
+    ensures follows { IfOk written.now (λ _. Follows change.now known.old.rows.followed known.new.rows.followed) }
+    ensures unwritten { IfErr written.now (λ _. known.new ≡ known.old) }
 {
-    match reply {
+    match written {
         Ok(_) => known.rows.followed.follow(change),
         Err(_) => {}
     }

@@ -4,6 +4,7 @@
 mod act_rows;
 mod acting;
 mod books;
+mod card_rows;
 mod day;
 mod each_fault;
 mod earlier_reply;
@@ -11,12 +12,10 @@ mod fault;
 mod filing;
 mod known;
 pub mod laws;
-mod lot_rows;
+mod notices;
 mod outside;
 mod repeats;
 mod reply;
-mod shipline;
-mod shipments;
 mod showing;
 mod tally;
 

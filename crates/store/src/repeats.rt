@@ -1,21 +1,23 @@
 //! The rows of `repeats`: the keys, the commands and the answers of the acts.
 
-ghost use Rattle.std.specs.Prelude.{◌≡◌, slice_get, OnOk, IfOk, IfErr};
+ghost use Rattle.std.specs.Prelude.{◌≡◌, slice_get, OnOk, IfErr};
 ghost use Rattle.sqlite.specs.State.{HasCleanDisk, Survives, KeepsCommit, IsUnchanged};
 ghost use Rattle.sqlite.specs.Held.{state};
 ghost use Rattle.commands.specs.Spelling.{key_text};
-ghost use Rattle.table_words.specs.Steps.{IsReady, Goes};
-ghost use Rattle.table_words.specs.Typed.{tables_in, AreTyped, with_repeat};
-ghost use Rattle.table_words.specs.declared.error.TableFault.TheVariants.{Foreign};
+ghost use Rattle.table_words.specs.Typed.{with_repeat};
+ghost use Rattle.keyed_rows.specs.Writes.{Writes};
+ghost use Rattle.slices.specs.Reading.{IsRead};
 
 use crate::Fault;
 use commands::limits::KEY_TEXT_MAX;
 use commands::{Key, Listed, RepeatRow};
-use history_tables::repeats::{put_repeat, repeats_of};
+use keyed_rows::table::add;
 use rules::Change;
+use slices::read_rows;
 use sqlite::{Alter, Transaction};
 use std::alloc::Global;
 use table_words::error::TableFault;
+use tables::repeats::Repeats;
 use values::Text;
 
 // A statement that is made ready and never run. It has no parameters and no columns, so nothing is copied.
@@ -41,15 +43,9 @@ pub fn act_under_key<S: Alter>(
     k: &Text<KEY_TEXT_MAX>,
 ) -> Result<Option<RepeatRow>, TableFault>
     ensures same_reference { tx.new.conn.ghost_name ≡ tx.old.conn.ghost_name }
-    ensures read { HasCleanDisk (state S.Store tx.new.conn.now) → IsReady (state S.Store tx.old.conn.now).now
-        → IfOk result (λ row. row ≡ (tables_in (state S.Store tx.old.conn.now).now.trees).repeat k.now) }
-    ensures typed { HasCleanDisk (state S.Store tx.new.conn.now) → IsReady (state S.Store tx.old.conn.now).now → AreTyped (state S.Store tx.old.conn.now).now.trees
-        → IfErr result (λ e. e ≡ Foreign → ⊥) }
-    ensures same { HasCleanDisk (state S.Store tx.new.conn.now) → IsReady (state S.Store tx.old.conn.now).now → OnOk result (IsUnchanged (state S.Store tx.old.conn.now) (state S.Store tx.new.conn.now)) }
-    ensures kept { HasCleanDisk (state S.Store tx.new.conn.now) → IsReady (state S.Store tx.old.conn.now).now → KeepsCommit (state S.Store tx.old.conn.now) (state S.Store tx.new.conn.now) }
-    ensures survives { Survives (state S.Store tx.old.conn.now) (state S.Store tx.new.conn.now) (λ _. ⊥) }
+    ensures read { IsRead (λ t row. row ≡ t.repeat k.now) (state S.Store tx.old.conn.now) (state S.Store tx.new.conn.now) result }
 {
-    let rows = repeats_of(alloc, tx, k)?;
+    let rows = read_rows::<Repeats, Text<KEY_TEXT_MAX>, S>(alloc, tx, k)?;
     Ok(first_row(rows))
 }
 
@@ -70,13 +66,9 @@ pub fn keep_act<S: Alter>(
     key: &Key,
     spell: Listed<u8>,
     change: &Change,
-) -> Result<(), Fault>
+) -> Result<(), TableFault>
     ensures same_reference { tx.new.conn.ghost_name ≡ tx.old.conn.ghost_name }
-    ensures done { HasCleanDisk (state S.Store tx.new.conn.now) → IsReady (state S.Store tx.old.conn.now).now
-        → OnOk result (Goes (with_repeat (record { k = key_text key.now; act = change.now.meta.acts; spell = spell; reply = change.now.text })) (state S.Store tx.old.conn.now) (state S.Store tx.new.conn.now)) }
-    ensures fault { IfErr result (λ e. e ≡ Fault.Store) }
-    ensures kept { HasCleanDisk (state S.Store tx.new.conn.now) → KeepsCommit (state S.Store tx.old.conn.now) (state S.Store tx.new.conn.now) }
-    ensures survives { Survives (state S.Store tx.old.conn.now) (state S.Store tx.new.conn.now) (λ _. ⊥) }
+    ensures writes { Writes (with_repeat (record { k = key_text key.now; act = change.now.meta.acts; spell = spell; reply = change.now.text })) (state S.Store tx.old.conn.now) (state S.Store tx.new.conn.now) result }
 {
     let row = RepeatRow {
         k: key.text(),
@@ -84,6 +76,5 @@ pub fn keep_act<S: Alter>(
         spell,
         reply: change.text,
     };
-    put_repeat(tx, &row)?;
-    Ok(())
+    add::<Repeats, S>(tx, &row)
 }

@@ -1,23 +1,21 @@
 //! What is asked of the books, shown.
 
-ghost use Rattle.std.specs.Prelude.{◌≡◌, false, ℤ, List, IsTrue, OnOk, IfOk, IfErr, Ok, Err};
+ghost use Rattle.std.specs.Prelude.{◌≡◌, false, ℤ, List, OnOk, Ok, Err};
 ghost use Rattle.std.specs.Option.{option_copied};
 ghost use Rattle.sqlite.specs.State.{HasCleanDisk, Survives, KeepsCommit};
 ghost use Rattle.sqlite.specs.Held.{state};
 ghost use Rattle.commands.specs.Tables.{Tables};
 ghost use Rattle.commands.specs.declared.refusal.Refusal.{Refusal as Why};
-ghost use Rattle.table_words.specs.Steps.{IsReady};
-ghost use Rattle.table_words.specs.Typed.{tables_in};
 ghost use Rattle.machine.specs.Acts.{Act};
 ghost use Rattle.machine.specs.Once.{IsHistory};
 ghost use Rattle.machine.specs.Standing.{today};
 ghost use Rattle.machine.specs.Tables.{tables_of};
-ghost use Rattle.slices.specs.Books.{IsBooksOf};
 ghost use Rattle.slices.specs.Remembering.{KnowsRows};
 ghost use Rattle.queries.specs.Asked.{IsKnownOf};
 ghost use Rattle.store.specs.Books.{KeepsBooks, IsSettled};
+ghost use Rattle.store.specs.Inside.{IsInside};
 ghost use Rattle.store.specs.Knowing.{IsKnown};
-ghost use Rattle.store.specs.Showing.{IsFoundAs, IsShownAs, IsShownOn};
+ghost use Rattle.store.specs.Showing.{IsFoundAs, Looks, IsShownAs, IsShownOn};
 
 use crate::Fault;
 use crate::repeats::find_open;
@@ -95,17 +93,7 @@ fn find_found<Q: Query, S: Alter>(
     query: &Q,
 ) -> Result<Result<Q::Found, Refusal>, Fault>
     ensures same_reference { tx.new.conn.ghost_name ≡ tx.old.conn.ghost_name }
-    ensures read { HasCleanDisk (state S.Store tx.new.conn.now) → (first : ℤ) (acts : List Act)
-        → (IsTrue (state S.Store tx.old.conn.now).is_open → IsBooksOf first acts (state S.Store tx.old.conn.now).now)
-        → (IsTrue (state S.Store tx.old.conn.now).is_open → IsKnownOf (option_copied known.entry) (tables_in (state S.Store tx.old.conn.now).now.trees) × KnowsRows (tables_in (state S.Store tx.old.conn.now).now.trees) rows.old)
-        → IfOk result (λ found. Q.is_in query.now (tables_of first acts) found) }
-    ensures known { HasCleanDisk (state S.Store tx.new.conn.now) → (IsTrue (state S.Store tx.old.conn.now).is_open → IsReady (state S.Store tx.old.conn.now).now)
-        → (IsTrue (state S.Store tx.old.conn.now).is_open → IsKnownOf (option_copied known.entry) (tables_in (state S.Store tx.old.conn.now).now.trees) × KnowsRows (tables_in (state S.Store tx.old.conn.now).now.trees) rows.old)
-        → OnOk result (KnowsRows (tables_in (state S.Store tx.old.conn.now).now.trees) rows.new) }
-    ensures fault { HasCleanDisk (state S.Store tx.new.conn.now) → (first : ℤ) (acts : List Act)
-        → (IsTrue (state S.Store tx.old.conn.now).is_open → IsBooksOf first acts (state S.Store tx.old.conn.now).now) → IfErr result (λ e. e ≡ Fault.Store) }
-    ensures kept { HasCleanDisk (state S.Store tx.new.conn.now) → (IsTrue (state S.Store tx.old.conn.now).is_open → IsReady (state S.Store tx.old.conn.now).now) → KeepsCommit (state S.Store tx.old.conn.now) (state S.Store tx.new.conn.now) }
-    ensures survives { Survives (state S.Store tx.old.conn.now) (state S.Store tx.new.conn.now) (λ _. ⊥) }
+    ensures looks { IsInside (Looks (λ t found. Q.is_in query.now t found) (option_copied known.entry) rows.old rows.new result) (state S.Store tx.old.conn.now) (state S.Store tx.new.conn.now) }
 {
     find_open(tx)?;
     match query.read(alloc, tx, known, rows) {

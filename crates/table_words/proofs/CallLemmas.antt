@@ -1,21 +1,7 @@
 -- What a call on a transaction leaves.
-use Rattle.std.proofs.Common.{◌≡◌, ◌⊎◌, inl, inr, ℕ, Bool, true, false, List, Ok, Err, Result, OnOk, OnErr, IfOk, IfErr, IsTrue, refl, sym, ap, subst, ◌∙◌, arith}
-use Rattle.std.proofs.lemmas.Bool.{cases_Bool}
-use Rattle.std.specs.Prelude.{map}
-use Rattle.std.specs.List.{AllByRecursion}
+use Rattle.table_words.proofs.Words.{◌≡◌, ◌⊎◌, inl, inr, ℕ, Bool, true, false, List, Ok, Err, Result, OnOk, OnErr, IfOk, IfErr, IsTrue, refl, sym, ap, subst, ◌∙◌, arith, cases_Bool, map, AllByRecursion, Ghosts, Held, state, Error, understood, timed, State, Survives, ExecutesInside, KeepsCommit, IsUnchanged, IsRolledBack, FailsToShow, IsTooLate, ShowsRows, IsPlain, survives_then, Database, Tables, tables_in, AreTyped, IsReady, Goes, ChangesNone, Reads, ShowsForeign}
 use Rattle.sqlite.specs.Order.{Row}
-use Rattle.sqlite.specs.Store.{Ghosts}
-use Rattle.sqlite.specs.Held.{Held, state}
-use Rattle.sqlite.specs.declared.error.Error.{Error}
-use Rattle.sqlite.specs.Listing.{understood}
-use Rattle.sqlite.specs.Clock.{timed}
-use Rattle.sqlite.specs.State.{State, Survives, ExecutesInside, KeepsCommit, IsUnchanged, IsRolledBack, IsNotRun, FailsToQuery, FailsToShow, IsTooLate, Shown, ShowsRows}
-use Rattle.sqlite.proofs.Callers.{IsPlain}
-use Rattle.sqlite.proofs.StateLemmas.{survives_then}
-use Rattle.sqlite.specs.Effect.{Database}
-use Rattle.table_words.specs.Typed.{Tables, tables_in, AreTyped}
-use Rattle.table_words.specs.Steps.{IsReady, Goes, ChangesNone}
-use Rattle.table_words.specs.Calls.{Reads, ShowsForeign}
+use Rattle.sqlite.specs.State.{IsNotRun, FailsToQuery, Shown}
 
 -- a call that answered was made inside a transaction
 pub was_inside : {X E P : Type 0} (b : Bool) {x : X} {e : E} → (b ≡ false → ◌≡◌ {A = Result X E} (Ok x) (Err e) × P) → b ≡ true

@@ -1,35 +1,7 @@
 -- Columns and typed rows under what is done to stored rows.
-use Rattle.std.proofs.Common.{◌≡◌, inl, inr, ℕ, Bool, true, false, ◌&&◌, bytes_eq, List, [], ◌∷◌, ◌++◌, map, filter, pos, negsuc, ℤ, int_eq, int_cmp, arith, true≢false, subst, refl, sym, ap, ap₂, ◌∙◌, is_eq, Equal, codes, length, get_or, take, ◌+◌, ◌<◌}
-use Rattle.std.specs.List.{AllByRecursion}
-use Rattle.std.proofs.lemmas.Bool.{cases_Bool, and_parts}
-use Rattle.std.proofs.lemmas.Map.Text.{is_eq-slice_cmp}
-use Rattle.sqlite_value.specs.declared.value.Value.{Value}
-use Rattle.sqlite_value.specs.declared.value.Value.TheVariants.{Null, Int, Real, Text, Blob}
-use Rattle.sqlite_value.specs.Order.{Row, bytes, class, value_cmp}
-use Rattle.sqlite_value.specs.declared.keys.Collation.TheVariants.{Binary}
-use Rattle.sqlite_value.proofs.OrderLemmas.{value_cmp-Text, value_cmp-Int, value_cmp-apart}
-use Rattle.std.proofs.lemmas.Slice.Eq.{bytes_eq-Decides}
-use Rattle.std.proofs.lemmas.Bool.Decides.{nat_tests, Decides-eqb, Decides-int_eq}
-use Rattle.std.proofs.lemmas.Int.{ints}
-use Rattle.std.specs.Prelude.{◌↔◌, nat_eq, nat_le, ◌≤◌, unwrap_or}
-use Rattle.sqlite_trees.specs.View.{is_int}
+use Rattle.table_words.proofs.Words.{◌≡◌, inl, inr, ℕ, Bool, true, false, ◌&&◌, bytes_eq, List, [], ◌∷◌, ◌++◌, map, filter, pos, negsuc, ℤ, int_eq, int_cmp, arith, true≢false, subst, refl, sym, ap, ap₂, ◌∙◌, is_eq, Equal, codes, length, get_or, take, ◌+◌, ◌<◌, AllByRecursion, cases_Bool, and_parts, is_eq-slice_cmp, Value, Null, Int, Real, Text, Blob, Row, bytes, class, value_cmp, Binary, value_cmp-Text, value_cmp-Int, value_cmp-apart, bytes_eq-Decides, nat_tests, Decides-eqb, Decides-int_eq, ints, ◌↔◌, nat_eq, nat_le, ◌≤◌, unwrap_or, is_int, map-map, all-append, all_map, all_weaker, take_more, map-append, equal, Compare, Eq, is_true, from_truth, same_lot_id, typed, is_word, is_the_text, is_number, is_count, is_the_number, number_in, flag_number, flag_in, is_bin_kind, bin_kind_in, is_order_state, is_open_state, order_state_in, is_card_kind, card_kind_in, LotId, bin_kind_word, order_state_of, order_state_word, card_kind_word, BinKind, Store, Hold, OrderState, Open, Done, Cancelled, CardKind, Receipt, WriteOn, WriteOff, Shipment}
 use Rattle.table_words.proofs.KeyLemmas.{IsSame, ties, same_bytes, itself_bytes, itself_both}
-use Rattle.sqlite_keyed.proofs.ListLemmas.{map-map, all-append, all_map, all_weaker}
-use Rattle.std.proofs.lemmas.List.{take_more, map-append}
-use Rattle.sqlite_schema.specs.Rules.{equal}
-use Rattle.sqlite_sql.specs.declared.ops.BinaryOp.TheVariants.{Compare}
-use Rattle.sqlite_sql.specs.declared.ops.CompareOp.TheVariants.{Eq}
-use Rattle.sqlite_sql.specs.Ops.{binary, is_true, from_truth}
-use Rattle.table_words.specs.Typed.{same_lot_id}
-use Rattle.table_words.specs.Cells.{typed, is_word, is_the_text, is_number, is_count, is_the_number, number_in, flag_number, flag_in, is_bin_kind, bin_kind_in, is_order_state, is_open_state, order_state_in, is_card_kind, card_kind_in}
-use Rattle.values.specs.declared.lot.LotId.{LotId}
-use Rattle.commands.specs.Words.{bin_kind_word, order_state_of, order_state_word, card_kind_word}
-use Rattle.commands.specs.declared.command.BinKind.{BinKind}
-use Rattle.commands.specs.declared.command.BinKind.TheVariants.{Store, Hold}
-use Rattle.commands.specs.declared.rows.OrderState.{OrderState}
-use Rattle.commands.specs.declared.rows.OrderState.TheVariants.{Open, Done, Cancelled}
-use Rattle.commands.specs.declared.rows.CardKind.{CardKind}
-use Rattle.commands.specs.declared.rows.CardKind.TheVariants.{Receipt, WriteOn, WriteOff, Shipment}
+use Rattle.sqlite_sql.specs.Ops.{binary}
 
 -- where all that is shown reads as typed rows, all that is stored does
 unmapped : (has is : Row → Bool) (show : Row → Row) → ((r : Row) → has (show r) ≡ is r) → (rows : List Row) → AllByRecursion (λ v. has v ≡ true) (map show rows) → AllByRecursion (λ r. is r ≡ true) rows

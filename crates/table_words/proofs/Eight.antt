@@ -1,9 +1,5 @@
 -- A row of at most eight values, one by one.
-use Rattle.std.proofs.Common.{◌≡◌, ◌≤◌, [], ◌∷◌, length, take, map, refl, arith}
-use Rattle.sqlite.specs.Values.{bound, bound_value}
-use Rattle.sqlite_value.specs.Value.{owned}
-use Rattle.sqlite_value.specs.declared.value.ValueRef.{ValueRef}
-use Rattle.sqlite_value.specs.Order.{Row, column}
+use Rattle.table_words.proofs.Words.{◌≡◌, ◌≤◌, [], ◌∷◌, length, take, map, refl, arith, bound, bound_value, owned, ValueRef, Row, column}
 
 pub eight : (v0 v1 v2 v3 v4 v5 v6 v7 : ValueRef) (c : Row) → length c ≤ 8 → map bound_value c ≡ c → owned v0 ≡ column c 0 → owned v1 ≡ column c 1 → owned v2 ≡ column c 2 → owned v3 ≡ column c 3 → owned v4 ≡ column c 4 → owned v5 ≡ column c 5 → owned v6 ≡ column c 6 → owned v7 ≡ column c 7 → bound (take (length c) (v0 ∷ v1 ∷ v2 ∷ v3 ∷ v4 ∷ v5 ∷ v6 ∷ v7 ∷ [])) ≡ c
 eight v0 v1 v2 v3 v4 v5 v6 v7 ([]) h plain e0 e1 e2 e3 e4 e5 e6 e7 = refl

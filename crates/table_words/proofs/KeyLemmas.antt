@@ -1,31 +1,10 @@
 -- No two rows of a table have one key, and what a look-up by key finds after a write.
-use Rattle.std.proofs.Common.{◌≡◌, ◌≤◌, ℕ, ◌+◌, inl, inr, Bool, true, false, not, ◌&&◌, cond, List, [], ◌∷◌, filter, find, length, slice_get, Option, Some, None, refl, sym, ap, ap₂, ◌∙◌, subst, arith, IsTrue, Ordering, Less, Equal, Greater, is_eq, bytes_eq, true≢false}
-use Rattle.std.proofs.lemmas.Bool.{cases_Bool, and_parts, and_from, not-true, false_from_ne_true}
-use Rattle.std.specs.List.{AllByRecursion, list_any, list_all}
-use Rattle.std.specs.Ordering.{is_ne, match_ordering, ordering_reverse}
-use Rattle.std.proofs.lemmas.Slice.Eq.{bytes_eq-Decides}
-use Rattle.sqlite_value.specs.declared.value.Value.{Value}
-use Rattle.sqlite_value.specs.declared.value.Value.TheVariants.{Null, Int, Real, Text, Blob}
-use Rattle.sqlite_value.specs.Order.{Row, column, value_cmp}
-use Rattle.sqlite_value.specs.Keys.{plain, first_key}
-use Rattle.sqlite_value.specs.declared.keys.Collation.TheVariants.{Binary}
-use Rattle.sqlite_value.proofs.OrderLemmas.{value_cmp_total}
-use Rattle.sqlite_sql.specs.Ops.{binary, is_true, is_null, from_truth}
-use Rattle.sqlite_trees.specs.Tree.{Trees, rowid, put_row, IsTable}
-use Rattle.sqlite_trees.specs.View.{is_int}
-use Rattle.sqlite_schema.specs.declared.schema.Constraint.TheVariants.{Unique}
-use Rattle.sqlite_schema.specs.declared.schema.Index.{Index}
+use Rattle.table_words.proofs.Words.{◌≡◌, ◌≤◌, ℕ, ◌+◌, inl, inr, Bool, true, false, not, ◌&&◌, cond, List, [], ◌∷◌, filter, find, length, slice_get, Option, Some, None, refl, sym, ap, ap₂, ◌∙◌, subst, arith, IsTrue, Ordering, Less, Equal, Greater, is_eq, bytes_eq, true≢false, cases_Bool, and_parts, and_from, not-true, false_from_ne_true, AllByRecursion, list_any, list_all, is_ne, match_ordering, ordering_reverse, bytes_eq-Decides, Value, Null, Int, Real, Text, Blob, Row, column, value_cmp, plain, Binary, value_cmp_total, is_true, is_null, from_truth, rowid, put_row, IsTable, is_int, Unique, Index, agree, differ, equal, clashes, guards, passes_rule, Has, is_taken, all_has, all_from, test_has, some_from, has_filtered, has_put, ascending-filter, IsRows, typed, AreRows, no_two, only_if}
+use Rattle.sqlite_value.specs.Keys.{first_key}
+use Rattle.sqlite_sql.specs.Ops.{binary}
+use Rattle.sqlite_trees.specs.Tree.{Trees}
 use Rattle.sqlite_schema.specs.declared.schema.Schema.{Schema}
 use Rattle.sqlite_schema.specs.declared.schema.Table.{Table}
-use Rattle.sqlite_schema.specs.Rules.{agree, differ, equal, clashes, guards, passes as passes_rule}
-use Rattle.sqlite_rules.specs.Lists.{Has}
-use Rattle.sqlite_rules.specs.Edit.{is_taken}
-use Rattle.sqlite_rules.proofs.ListLemmas.{all_has, all_from, test_has, some_from, has_filtered}
-use Rattle.sqlite_rules.proofs.TableLemmas.{has_put}
-use Rattle.sqlite_keyed.proofs.ListLemmas.{ascending-filter}
-use Rattle.table_words.specs.Rows.{IsRows}
-use Rattle.table_words.specs.Cells.{typed}
-use Rattle.table_words.specs.Found.{AreRows, no_two, only_if}
 use Rattle.table_words.proofs.Plans.{same, tests_from}
 use Rattle.table_words.proofs.ScanLemmas.{passes}
 use Rattle.table_words.proofs.ListLemmas.{over}

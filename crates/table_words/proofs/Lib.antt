@@ -1,3 +1,4 @@
+mod Words
 pub mod Plans
 pub mod ListLemmas
 pub mod ScanLemmas

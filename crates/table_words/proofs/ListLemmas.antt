@@ -1,25 +1,5 @@
 -- What takes rows out of a table and puts one in, as functions of lists.
-use Rattle.std.proofs.Common.{◌≡◌, ◌≤◌, ◌<◌, length, get_or, inl, inr, ℤ, pos, ◌+ℤ◌, ◌<ℤ◌, Bool, true, false, not, cond, ◌||◌, List, [], ◌∷◌, ◌++◌, map, filter, fold, refl, sym, ap, subst, ◌∙◌, arith, Ordering, Less, Equal, Greater, is_eq, int_cmp, IsTrue, IsPermutation}
-use Rattle.std.proofs.lemmas.Bool.{cases_Bool, cond_both, false_from_ne_true}
-use Rattle.std.proofs.lemmas.Bool.Decides.{nat_tests}
-use Rattle.std.proofs.lemmas.Int.{ints}
-use Rattle.std.proofs.lemmas.Cmp.{tied_itself}
-use Rattle.std.proofs.lemmas.List.Sorted.{list_any-IsPermutation}
-use Rattle.std.specs.List.{AllByRecursion, list_any}
-use Rattle.sqlite_value.specs.declared.value.Value.TheVariants.{Int}
-use Rattle.sqlite_value.specs.Order.{Row, value_cmp}
-use Rattle.sqlite_value.proofs.OrderLemmas.{value_cmp_total, value_cmp-Int}
-use Rattle.sqlite_trees.specs.Tree.{rowid, IsTable, has_rowid, put_row, without_rowid}
-use Rattle.sqlite_trees.specs.View.{is_int}
-use Rattle.sqlite_rules.specs.Lists.{Has}
-use Rattle.sqlite_rules.specs.Edit.{id_in, next_rowid, without_all, is_taken}
-use Rattle.sqlite_rules.specs.Calls.{ids_of}
-use Rattle.sqlite_rules.proofs.ListLemmas.{all_has, all_from, some_has, some_from, has_filtered, has_kept}
-use Rattle.sqlite_rules.proofs.TableLemmas.{int_is, put_has, put_all_keeps}
-use Rattle.sqlite_trees.proofs.TreeLemmas.{IsTable-put_row}
-use Rattle.sqlite_rules.proofs.PlaceLemmas.{tied_same}
-use Rattle.sqlite_keyed.proofs.ListLemmas.{all-append, ascending-append, ascending-filter, all-filter, ascending-map, ascending_weaker, all_map, all_weaker}
-use Rattle.table_words.specs.Rows.{IsRows}
+use Rattle.table_words.proofs.Words.{◌≡◌, ◌≤◌, ◌<◌, length, get_or, inl, inr, ℤ, pos, ◌+ℤ◌, ◌<ℤ◌, Bool, true, false, not, cond, ◌||◌, List, [], ◌∷◌, ◌++◌, map, filter, fold, refl, sym, ap, subst, ◌∙◌, arith, Ordering, Less, Equal, Greater, is_eq, int_cmp, IsTrue, IsPermutation, cases_Bool, cond_both, false_from_ne_true, nat_tests, ints, tied_itself, list_any-IsPermutation, AllByRecursion, list_any, Int, Row, value_cmp, value_cmp_total, value_cmp-Int, rowid, IsTable, has_rowid, put_row, without_rowid, is_int, Has, id_in, next_rowid, without_all, is_taken, ids_of, all_has, all_from, some_has, some_from, has_filtered, has_kept, int_is, put_has, put_all_keeps, IsTable-put_row, tied_same, all-append, ascending-append, ascending-filter, all-filter, ascending-map, ascending_weaker, all_map, all_weaker, IsRows}
 
 pub filter_same_on : {X : Type 0} (p q : X → Bool) (xs : List X) → ((x : X) → Has xs x → p x ≡ q x) → filter p xs ≡ filter q xs
 filter_same_on p q [] same = refl

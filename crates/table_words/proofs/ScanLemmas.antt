@@ -1,18 +1,7 @@
 -- What a scan of one table answers.
-use Rattle.std.proofs.Common.{◌≡◌, inl, inr, ℕ, Bool, cond, List, [], ◌∷◌, map, filter, flat_map, slice_get, None, unwrap_or, refl, sym, ap, subst, ◌∙◌, Less, IsPermutation}
-use Rattle.std.proofs.lemmas.Bool.{cases_Bool}
-use Rattle.std.proofs.lemmas.List.Sorted.{IsPermutation-map}
-use Rattle.std.specs.List.{list_all}
-use Rattle.std.specs.Prelude.{◌^◌, ◌-◌, nat_le}
+use Rattle.table_words.proofs.Words.{◌≡◌, inl, inr, ℕ, Bool, cond, List, [], ◌∷◌, map, filter, flat_map, slice_get, None, unwrap_or, refl, sym, ap, subst, ◌∙◌, Less, IsPermutation, cases_Bool, IsPermutation-map, list_all, ◌^◌, ◌-◌, nat_le, Term, Env, eval_all, holds, Query, IsAnswer, output, output_cmp, Output, overlay, Trees, IsAscending, Key, output_cmp_total, map-map, ascending-map, ascending-filter, ascending_weaker, sorted_unique}
 use Rattle.sqlite.specs.Order.{Row}
-use Rattle.sqlite.specs.Term.{Term, Env, eval_all, holds}
-use Rattle.sqlite.specs.Query.{Query, IsAnswer, output, output_cmp, Output}
-use Rattle.sqlite.specs.Program.{overlay}
-use Rattle.sqlite.specs.Tree.{Trees, IsAscending, IsTable}
-use Rattle.sqlite_value.specs.declared.keys.Key.{Key}
-use Rattle.sqlite_sql.proofs.QueryLemmas.{output_cmp_total}
-use Rattle.sqlite_keyed.proofs.ListLemmas.{map-map, ascending-map, ascending-filter, ascending_weaker}
-use Rattle.sqlite_keyed.proofs.SortLemmas.{sorted_unique}
+use Rattle.sqlite.specs.Tree.{IsTable}
 use Rattle.table_words.proofs.Plans.{scan, by_rowid}
 
 abbrev pub env : Row → Row → Env

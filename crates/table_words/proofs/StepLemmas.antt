@@ -1,25 +1,6 @@
 -- From what a statement did to a table to what a call says.
-use Rattle.std.proofs.Common.{◌≡◌, true≢false, inl, inr, ℕ, zero, suc, true, false, not, List, [], ◌∷◌, ◌++◌, slice_get, Some, subst, refl, sym, ◌∙◌, arith}
-use Rattle.std.specs.Prelude.{nat_eq}
-use Rattle.std.specs.List.{AllByRecursion, list_all, list_any, flat_map, filter_map}
-use Rattle.std.proofs.lemmas.Bool.{cases_eq, eq-eqb, ne_eqb, and_parts, not-true}
-use Rattle.std.proofs.lemmas.Bool.Decides.{nat_tests}
-use Rattle.sqlite_value.specs.Order.{Row}
-use Rattle.sqlite.specs.State.{State}
-use Rattle.sqlite.specs.Effect.{Database}
-use Rattle.sqlite.specs.Tree.{Trees, with_tree}
-use Rattle.sqlite.specs.Schema.{Schema}
-use Rattle.sqlite.specs.Table.{Table}
-use Rattle.sqlite_schema.specs.declared.schema.Keys.TheVariants.{Enforced}
-use Rattle.sqlite_rules.specs.Action.{works, work_for}
-use Rattle.sqlite_catalog.specs.Listing.{IsSound}
-use Rattle.sqlite_keyed.proofs.ListLemmas.{all_both, all-slice_get, none_from_any}
-use Rattle.table_words.specs.Schema.{the_tables, schema_with, is_nil, refers_to_none, HasTables}
-use Rattle.table_words.specs.Rows.{IsRows}
-use Rattle.table_words.specs.Changed.{Changed}
-use Rattle.table_words.specs.Found.{no_two}
-use Rattle.table_words.specs.Typed.{Tables, tables_in, Rule, the_rules, Keeps, AreTyped}
-use Rattle.table_words.specs.Steps.{IsReady, Goes}
+use Rattle.std.specs.List.{flat_map}
+use Rattle.table_words.proofs.Words.{◌≡◌, true≢false, inl, inr, ℕ, zero, suc, true, false, not, List, [], ◌∷◌, ◌++◌, slice_get, Some, subst, refl, sym, ◌∙◌, arith, nat_eq, AllByRecursion, list_all, list_any, filter_map, cases_eq, eq-eqb, ne_eqb, and_parts, not-true, nat_tests, Row, State, Database, Trees, with_tree, Schema, Table, Enforced, works, work_for, IsSound, all_both, all-slice_get, none_from_any, the_tables, schema_with, is_nil, refers_to_none, HasTables, IsRows, Changed, no_two, Tables, tables_in, Rule, the_rules, Keeps, AreTyped, IsReady, Goes}
 
 pub tables_same : (old new : Trees) → AllByRecursion (λ t. new t.tree ≡ old t.tree) the_tables → tables_in new ≡ tables_in old
 tables_same old new same = rw (same.0, same.1.0, same.1.1.0, same.1.1.1.0, same.1.1.1.1.0, same.1.1.1.1.1.0, same.1.1.1.1.1.1.0, same.1.1.1.1.1.1.1.0, same.1.1.1.1.1.1.1.1.0, same.1.1.1.1.1.1.1.1.1.0, same.1.1.1.1.1.1.1.1.1.1.0, same.1.1.1.1.1.1.1.1.1.1.1.0, same.1.1.1.1.1.1.1.1.1.1.1.1.0, same.1.1.1.1.1.1.1.1.1.1.1.1.1.0, same.1.1.1.1.1.1.1.1.1.1.1.1.1.1.0, same.1.1.1.1.1.1.1.1.1.1.1.1.1.1.1.0) refl

@@ -1,47 +1,11 @@
 -- What DELETE and INSERT make of a table with no reference.
-use Rattle.std.proofs.Common.{◌≡◌, ◌≢◌, ◌⊎◌, inl, inr, ℕ, ℤ, ◌/◌, ◌≤◌, Option, unwrap_or, IsTrue, map, ap₂, arith, Bool, true, false, not, cond, List, [], ◌∷◌, ◌++◌, filter, length, slice_get, Some, None, Ok, Err, Result, refl, sym, ap, subst, ◌∙◌}
-use Rattle.std.proofs.lemmas.Bool.{cases_eq, eq-eqb, ne_eqb, and_parts, not-true}
-use Rattle.std.specs.List.{AllByRecursion}
-use Rattle.sqlite_keyed.proofs.ListLemmas.{all_weaker, map_same}
 use Rattle.sqlite.specs.declared.types.Value.{Value}
 use Rattle.sqlite.specs.declared.types.Value.TheVariants.{Null, Int}
 use Rattle.sqlite.specs.Order.{Row}
-use Rattle.sqlite.specs.Term.{Term, col}
 use Rattle.sqlite.specs.Ops.{unary}
-use Rattle.sqlite.specs.Query.{IsAnswer}
-use Rattle.sqlite.specs.Program.{overlay}
-use Rattle.sqlite.specs.Table.{Table}
-use Rattle.sqlite.specs.Schema.{Schema}
-use Rattle.sqlite.specs.Kind.TheVariants.{Integer}
-use Rattle.sqlite.specs.Source.TheVariants.{Values}
-use Rattle.sqlite.specs.Command.TheVariants.{Insert, Update, Delete}
-use Rattle.sqlite.specs.Edit.{edit_of, edited, taken_by, next_rowid}
-use Rattle.sqlite_rules.specs.Edit.{Edit, without_all, put_all, with_rowid, is_taken, are_fresh}
-use Rattle.sqlite_rules.specs.Lists.{Has}
-use Rattle.sqlite_rules.proofs.ListLemmas.{has_filtered, all_has}
-use Rattle.sqlite_rules.proofs.TableLemmas.{int_is}
-use Rattle.sqlite_trees.specs.Tree.{rowid, put_row}
-use Rattle.sqlite_trees.specs.View.{is_int}
-use Rattle.sqlite_value.specs.declared.keys.Order.{Order}
-use Rattle.sqlite_schema.specs.declared.command.Command.{Command}
-use Rattle.std.proofs.lemmas.List.Sorted.{length_permutation}
+use Rattle.sqlite.specs.Edit.{next_rowid}
 use Rattle.std.specs.List.Sorted.{IsPermutation}
-use Rattle.sqlite.specs.Cast.{cast, cast_all}
-use Rattle.sqlite_rules.specs.Cast.{cast_row}
-use Rattle.sqlite.specs.Rowids.TheVariants.{Given, Chosen}
-use Rattle.sqlite_rules.specs.Calls.{ids_of}
-use Rattle.sqlite_rules.specs.Action.{works}
-use Rattle.sqlite_schema.specs.declared.schema.Keys.TheVariants.{Enforced}
-use Rattle.sqlite_schema.specs.declared.schema.Column.{Column}
-use Rattle.sqlite.specs.Does.{Tally, Does, AtPlace, OnRows}
-use Rattle.sqlite.specs.Rows.{Written, Task}
-use Rattle.sqlite.specs.Effect.{Database, value_rows}
-use Rattle.sqlite.specs.Tree.{Trees, with_tree}
-use Rattle.sqlite.specs.State.{State, mode_of, Writes}
-use Rattle.sqlite.proofs.Callers.{one_step, one_permutation}
-use Rattle.table_words.specs.Schema.{plain_table}
-use Rattle.table_words.specs.Rows.{IsRows}
-use Rattle.table_words.specs.Changed.{Changed}
+use Rattle.table_words.proofs.Words.{◌≡◌, ◌≢◌, ◌⊎◌, inl, inr, ℕ, ℤ, ◌/◌, ◌≤◌, Option, unwrap_or, IsTrue, map, ap₂, arith, Bool, true, false, not, cond, List, [], ◌∷◌, ◌++◌, filter, length, slice_get, Some, None, Ok, Err, Result, refl, sym, ap, subst, ◌∙◌, cases_eq, eq-eqb, ne_eqb, and_parts, not-true, AllByRecursion, all_weaker, map_same, Term, col, IsAnswer, overlay, Table, Schema, Integer, Values, Insert, Update, Delete, edit_of, edited, taken_by, Edit, without_all, put_all, with_rowid, is_taken, are_fresh, Has, has_filtered, all_has, int_is, rowid, put_row, is_int, Order, Command, length_permutation, cast, cast_all, cast_row, Given, Chosen, ids_of, works, Enforced, Column, Tally, Does, AtPlace, OnRows, Written, Task, Database, value_rows, Trees, with_tree, State, mode_of, Writes, one_step, one_permutation, plain_table, IsRows, Changed}
 use Rattle.table_words.proofs.Plans.{scan, alone}
 use Rattle.table_words.proofs.ListLemmas.{gone_is, put_back, over, none_over, none_pass}
 use Rattle.table_words.proofs.ScanLemmas.{passes, show, scanned}

@@ -1,7 +1,7 @@
 //! How many rows that are known are kept: bins by their names.
 
 use commands::{BinKind, BinRow};
-use known_rows::{KnownRows, WEIGHT_MAX};
+use rows_in_memory::{KnownRows, WEIGHT_MAX};
 use std::alloc::Global;
 use std::process::Abort;
 use values::{Name, TextKey};

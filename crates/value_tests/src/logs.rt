@@ -37,7 +37,7 @@ static LINES: [(&[u8], &str); 14] = [
     (b"GET /stock/095060001343", ""),
 ];
 
-// Of a longer word the first 200 bytes stand there.
+// Of a longer word the first 200 bytes stand there; of an answer that was not sent a dash.
 #[test]
 fn logs_method_target_status_and_bytes(rt: HostRuntime) {
     for (text, line) in LINES.as_slice() {
@@ -59,4 +59,7 @@ fn logs_method_target_status_and_bytes(rt: HostRuntime) {
     let mut log: Vec<u8> = Vec::new(rt.alloc());
     assert!(rt; write_log_line(text.as_bytes(), ANSWER, &mut log).is_ok());
     assert!(rt; log.as_slice() == line.as_bytes());
+    log.clear();
+    assert!(rt; write_log_line(b"POST /bins HTTP/1.1\r\n\r\n", b"", &mut log).is_ok());
+    assert!(rt; log.as_slice() == b"POST /bins - 0\n".as_slice());
 }

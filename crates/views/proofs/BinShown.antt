@@ -1,26 +1,5 @@
 -- What the rows of a page of the lots in a bin show of them is what the machine shows.
-use Rattle.std.proofs.Common.{◌≡◌, ℕ, ◌+◌, true, ◌&&◌, not, List, ap, sym, ◌∙◌}
-use Rattle.std.specs.Prelude.{◌==◌, ℤ, Option, Some, find, map, take, length, option_map, nat_lt}
-use Rattle.values.specs.Values.{same_text}
-use Rattle.values.specs.declared.lot.LotId.{LotId}
-use Rattle.commands.specs.declared.rows.BinRow.{BinRow}
-use Rattle.commands.specs.declared.rows.ItemRow.{ItemRow}
-use Rattle.commands.specs.declared.rows.LotRow.{LotRow}
-use Rattle.machine.specs.Acts.{Act}
-use Rattle.machine.specs.Postings.{of_item}
-use Rattle.machine.specs.Standing.{KnownLot, has_item, lots, today}
-use Rattle.machine.specs.Planning.{in_bin}
-use Rattle.machine.specs.Once.{IsHistory}
-use Rattle.machine.proofs.Tests.{same_text_is, same_text_refl}
-use Rattle.machine.proofs.histories.LotItems.{lots_have_items}
-use Rattle.row_rules.specs.Status.{least_seen}
-use Rattle.row_rules.specs.declared.slice.Rows.{Rows}
-use Rattle.overviews.specs.declared.lists.TheConstants.{PAGE_MAX}
-use Rattle.overviews.specs.Pages.{page, goes_on, is_behind, goes_before_by_item, lots_by_item, lots_in_bin, item_of, bin_lot, bin_view}
-use Rattle.views.specs.GivenBin.{bin_lot_told, bin_lot_seen, bin_seen}
-use Rattle.views.specs.GivenExpiring.{all_found}
-use Rattle.views.specs.ShownBin.{known_bin, is_item_in_bin, AreOfBinPage}
-use Rattle.views.specs.ShownExpiring.{known_row}
+use Rattle.views.proofs.Words.{◌≡◌, ℕ, ◌+◌, true, ◌&&◌, not, List, ap, sym, ◌∙◌, ◌==◌, ℤ, Option, Some, find, map, take, length, option_map, nat_lt, same_text, LotId, BinRow, ItemRow, LotRow, Act, of_item, KnownLot, has_item, lots, today, in_bin, IsHistory, same_text_is, same_text_refl, lots_have_items, least_seen, Rows, PAGE_MAX, page, goes_on, is_behind, goes_before_by_item, lots_by_item, lots_in_bin, item_of, bin_lot, bin_view, bin_lot_told, bin_lot_seen, bin_seen, all_found, known_bin, is_item_in_bin, AreOfBinPage, known_row}
 use Rattle.views.proofs.BinPage.{qty_told}
 use Rattle.views.proofs.ExpiringShown.{found_of_each, item_there, item_row_is}
 use Rattle.views.proofs.FirstInOrder.{page_of_more, goes_on_of_more, take_map}

@@ -1,9 +1,11 @@
+mod Words
 pub mod Walks
 pub mod Sorting
 pub mod Lists
 pub mod Ranks
 pub mod Members
 pub mod LotsShown
+pub mod LotsKept
 pub mod QuantitiesShown
 pub mod BinsShown
 pub mod ShortShown
@@ -12,23 +14,20 @@ pub mod OrderShown
 pub mod AllBinsShown
 pub mod LotTotals
 pub mod StockTold
-pub mod StockGiven
 pub mod Service
 pub mod ShortsShown
-pub mod ShortGiven
-pub mod OrderGiven
+pub mod ShortByUnits
+pub mod ShortsServed
 pub mod FirstInOrder
-mod OpenGiven
+mod OrderSums
 pub mod OpenPage
 mod OpenUnits
 pub mod OpenShown
 pub mod OpenOnce
-mod ExpiringGiven
 pub mod ExpiringPage
 mod ExpiringShown
 pub mod NamesPage
 pub mod NamesShown
 mod ByItem
-mod BinGiven
 pub mod BinPage
 mod BinShown

@@ -1,28 +1,6 @@
 -- The items by the rows, in their order, are those of the machine.
-use Rattle.std.proofs.Common.{◌≡◌, ◌+◌, Bool, true, List, [], ◌∷◌, refl, ap, sym, subst, ◌∙◌}
-use Rattle.std.specs.Prelude.{ℤ, Option, Some, None, find, filter, map, take, option_map}
-use Rattle.values.specs.Values.{same_text}
-use Rattle.commands.specs.Lists.{in_order}
-use Rattle.commands.specs.declared.command.Command.{Command}
-use Rattle.commands.specs.declared.command.Command.TheVariants.{Item}
-use Rattle.commands.specs.declared.command.NewItem.{NewItem}
-use Rattle.commands.specs.declared.key.Key.{Key}
-use Rattle.commands.specs.declared.rows.ItemRow.{ItemRow}
-use Rattle.machine.specs.Acts.{Act}
-use Rattle.machine.specs.Standing.{items, item_named}
-use Rattle.machine.specs.Verdict.{verdict}
-use Rattle.machine.specs.Once.{IsHistory}
-use Rattle.machine.specs.Tables.{item_row}
-use Rattle.machine.proofs.Apart.{AreApart, any_found, all_found}
-use Rattle.machine.proofs.Tests.{same_text_is, same_text_refl, same_text_turned}
-use Rattle.machine.proofs.histories.Accepted.{item_accepted}
-use Rattle.row_rules.specs.Plans.{inserted}
-use Rattle.rules.proofs.rows.Ordering.{AreRising, rising_inserted, rising_ordered, rising_kept}
-use Rattle.rules.proofs.rows.Telling.{some_of_mapped, once_apart}
-use Rattle.overviews.specs.declared.lists.TheConstants.{NAMES_MAX}
-use Rattle.overviews.specs.Pages.{is_behind, gtin_before, items_behind}
-use Rattle.views.specs.GivenNames.{item_before, items_and_more}
-use Rattle.views.specs.ShownNames.{row_of_item, AreItems}
+use Rattle.views.proofs.Words.{◌≡◌, ◌+◌, Bool, true, List, [], ◌∷◌, refl, ap, sym, subst, ◌∙◌, ℤ, Option, Some, None, find, filter, map, take, option_map, same_text, in_order, Command, Item, NewItem, Key, ItemRow, Act, items, item_named, verdict, IsHistory, item_row, AreApart, any_found, same_text_is, same_text_refl, same_text_turned, item_accepted, inserted, AreRising, rising_inserted, rising_ordered, rising_kept, some_of_mapped, once_apart, NAMES_MAX, is_behind, gtin_before, items_behind, item_before, items_and_more, row_of_item, AreItems}
+use Rattle.machine.proofs.Apart.{all_found}
 use Rattle.views.proofs.FirstInOrder.{take_map}
 use Rattle.views.proofs.Members.{member_found, all_have, own_row}
 use Rattle.views.proofs.Ranks.{text_strict, text_further, text_either, are_ordered}

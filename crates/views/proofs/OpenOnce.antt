@@ -1,18 +1,5 @@
 -- No two orders of a page have one name.
-use Rattle.std.proofs.Common.{◌≡◌, ℕ, Bool, true, false, ◌&&◌, not, List, [], ◌∷◌, refl, ap, sym, ◌∙◌, zero, suc, inl, inr}
-use Rattle.std.specs.Prelude.{◌||◌, ℤ, Option, Some, take}
-use Rattle.std.specs.List.{list_any}
-use Rattle.values.specs.Values.{same_text}
-use Rattle.machine.specs.Acts.{Act}
-use Rattle.machine.specs.Once.{IsHistory}
-use Rattle.machine.specs.Standing.{Placed, orders, order_named}
-use Rattle.machine.specs.Planning.{is_open}
-use Rattle.machine.specs.KeyedRows.{no_two}
-use Rattle.machine.proofs.Tests.{same_text_is}
-use Rattle.machine.proofs.histories.Orders.{same_order, orders_found}
-use Rattle.rules.proofs.rows.Ordering.{AllBehind, AreRising, rising_kept}
-use Rattle.overviews.specs.Pages.{page, is_behind, is_served_before, orders_served, open_orders}
-use Rattle.overviews.specs.declared.lists.TheConstants.{PAGE_MAX}
+use Rattle.views.proofs.Words.{◌≡◌, ℕ, Bool, true, false, ◌&&◌, not, List, [], ◌∷◌, refl, ap, sym, ◌∙◌, zero, suc, inl, inr, ◌||◌, ℤ, Option, Some, take, list_any, same_text, Act, IsHistory, Placed, orders, order_named, is_open, no_two, same_text_is, same_order, orders_found, AllBehind, AreRising, rising_kept, page, is_behind, is_served_before, orders_served, open_orders, PAGE_MAX}
 use Rattle.views.proofs.Members.{member_found}
 use Rattle.views.proofs.OpenPage.{served_rises, of_served}
 use Rattle.views.proofs.OpenShown.{of_taken}

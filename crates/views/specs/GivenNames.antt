@@ -1,14 +1,6 @@
 -- What is shown of items, from rows.
-use Rattle.std.specs.Prelude.{ℕ, ◌+◌, nat_lt, Bool, List, [], length, take, filter, map, Option}
-use Rattle.commands.specs.declared.rows.ItemRow.{ItemRow}
-use Rattle.commands.specs.declared.rows.LeastRow.{LeastRow}
-use Rattle.machine.specs.Views.{text_before}
-use Rattle.row_rules.specs.Plans.{inserted}
-use Rattle.row_rules.specs.Status.{least_seen}
-use Rattle.overviews.specs.declared.lists.TheConstants.{NAMES_MAX}
-use Rattle.overviews.specs.declared.lists.ItemNamesView.{ItemNamesView}
-use Rattle.overviews.specs.declared.lists.NamedItem.{NamedItem}
-use Rattle.overviews.specs.Pages.{is_behind}
+use Rattle.std.specs.Prelude.{◌+◌}
+use Rattle.views.specs.Words.{ℕ, nat_lt, Bool, List, [], length, take, filter, map, Option, ItemRow, LeastRow, text_before, inserted, least_seen, NAMES_MAX, ItemNamesView, NamedItem, is_behind}
 
 abbrev pub item_before : ItemRow → ItemRow → Bool
 item_before i j = text_before i.gtin j.gtin
@@ -19,10 +11,6 @@ items_and_more seen items = take (NAMES_MAX + 1) (inserted item_before [] (filte
 
 abbrev pub named_seen : List LeastRow → ItemRow → NamedItem
 named_seen least i = record { item = i; least = least_seen least i.gtin }
-
--- from the rows that are given for its GTIN
-abbrev pub named_given : (List ℕ → List LeastRow) → ItemRow → NamedItem
-named_given least i = named_seen (least i.gtin) i
 
 abbrev pub names_seen : ℕ → List LeastRow → List ItemRow → ItemNamesView
 names_seen act least found = record {

@@ -1,12 +1,11 @@
+mod Words
 pub mod Seen
 pub mod Shown
 pub mod SeenStock
 pub mod ShownStock
-pub mod GivenStock
 pub mod SeenShort
 pub mod ShownShort
 pub mod GivenShort
-pub mod GivenOrder
 pub mod GivenOpen
 pub mod ShownOpen
 pub mod GivenExpiring

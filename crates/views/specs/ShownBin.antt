@@ -1,18 +1,5 @@
 -- The rows by which the lots in a bin are shown.
-use Rattle.std.specs.Prelude.{ℕ, ℤ, Bool, true, List, Option}
-use Rattle.std.specs.List.{list_any}
-use Rattle.values.specs.Values.{same_text}
-use Rattle.commands.specs.declared.command.NewBin.{NewBin}
-use Rattle.commands.specs.declared.rows.BinRow.{BinRow}
-use Rattle.commands.specs.declared.rows.LotRow.{LotRow}
-use Rattle.commands.specs.declared.rows.StockRow.{StockRow}
-use Rattle.machine.specs.Acts.{Act}
-use Rattle.machine.specs.Postings.{is_lot}
-use Rattle.machine.specs.Standing.{KnownLot}
-use Rattle.machine.specs.Tables.{item_row, least_row, lot_row, recall_row, stock_row}
-use Rattle.machine.specs.KeyedRows.{AreRows, same_cell}
-use Rattle.row_rules.specs.declared.slice.Rows.{Rows}
-use Rattle.overviews.specs.Pages.{page, lots_in_bin}
+use Rattle.views.specs.Words.{ℕ, ℤ, Bool, true, List, Option, list_any, same_text, NewBin, BinRow, LotRow, StockRow, Act, is_lot, KnownLot, item_row, least_row, lot_row, recall_row, stock_row, AreRows, same_cell, Rows, page, lots_in_bin}
 
 -- the bin whose row this is
 abbrev pub known_bin : BinRow → NewBin

@@ -1,15 +1,5 @@
 -- The rows by which items are shown.
-use Rattle.std.specs.Prelude.{ℕ, Bool, true, List, take, Option}
-use Rattle.std.specs.List.{list_any}
-use Rattle.values.specs.Values.{same_text}
-use Rattle.commands.specs.declared.command.NewItem.{NewItem}
-use Rattle.commands.specs.declared.rows.ItemRow.{ItemRow}
-use Rattle.commands.specs.declared.rows.LeastRow.{LeastRow}
-use Rattle.machine.specs.Acts.{Act}
-use Rattle.machine.specs.Tables.{item_row, least_row}
-use Rattle.machine.specs.KeyedRows.{AreRows}
-use Rattle.overviews.specs.declared.lists.TheConstants.{NAMES_MAX}
-use Rattle.overviews.specs.Pages.{items_behind}
+use Rattle.views.specs.Words.{ℕ, Bool, true, List, take, Option, list_any, same_text, NewItem, ItemRow, LeastRow, Act, item_row, least_row, AreRows, NAMES_MAX, items_behind}
 
 -- the row of an item
 abbrev pub row_of_item : NewItem → ItemRow

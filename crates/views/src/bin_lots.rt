@@ -1,34 +1,35 @@
 //! What is shown of the lots in a bin.
 
-ghost use Rattle.std.specs.Prelude.{◌≡◌, ◌+◌, ◌++◌, [], map, filter, take, IfOk, OnOk, Some, ℤ, ℕ, List, Option, length};
+ghost use Rattle.std.specs.Prelude.{◌≡◌, ◌+◌, ◌++◌, [], map, take, IfOk, OnOk, Some, ℤ, ℕ, List, Option, length};
 ghost use Rattle.std.specs.List.{cons_option};
 ghost use Rattle.commands.specs.declared.command.NewBin.{NewBin};
 ghost use Rattle.machine.specs.Acts.{Act};
 ghost use Rattle.machine.specs.Once.{IsHistory};
 ghost use Rattle.machine.specs.Standing.{KnownLot, today};
+ghost use Rattle.row_rules.specs.Seen.{stock_qty};
+ghost use Rattle.row_rules.specs.SeenLots.{stock_found};
 ghost use Rattle.overviews.specs.Pages.{lots_in_bin, bin_view as bin_view_lem};
 ghost use Rattle.views.specs.GivenExpiring.{all_found};
-ghost use Rattle.views.specs.GivenBin.{is_in_bin_row, is_in_bin_given as is_in_bin_given_lem, bin_and_more, bin_lot_seen, bin_lot_found, bin_seen};
+ghost use Rattle.views.specs.GivenBin.{is_in_bin_row, bin_and_more, bin_lot_seen, bin_lot_found, bin_seen};
 ghost use Rattle.views.specs.ShownExpiring.{known_row, IsLotSeenLast};
 ghost use Rattle.views.specs.ShownBin.{known_bin, AreInBin, AreOfBinPage};
 
 use crate::expiring::ByExpiry;
 use crate::least::least_of;
 use crate::pages::{first_in_order, is_behind, page_of};
-use crate::stock::{LotsShown, lots_shown};
+use crate::stock::status_of;
 use crate::text_order::is_text_before;
-use commands::{BinRow, Listed, LotRow, StockRow};
+use commands::{BinRow, Listed, LotRow, RecallRow, StockRow};
 use label::BusinessDay;
 use overviews::{BinLot, BinView, PAGE_MAX};
 use row_rules::in_order::Order;
-use row_rules::list_parts::push_if;
-use row_rules::row_index::{RowsByText, by_text};
+use row_rules::loops::{Test, passing};
 use row_rules::row_search::find_row;
-use row_rules::status::lot_status;
-use row_rules::stock::units_among;
+use row_rules::rows_by_key::{RowsByKey, by_key};
+use row_rules::stock::units_of;
 use rules::Rows;
 use std::alloc::{AllocError, Global};
-use values::{Lot, Name};
+use values::{LotId, Name};
 
 /// The order of lots in a bin: by item, and then by expiry and first receipt.
 struct ByItem;
@@ -47,38 +48,40 @@ impl Order<LotRow> for ByItem {
 
 // Which lots
 
-fn is_in_bin(bin: &Name, seen: &Option<LotRow>, stock: &[StockRow], lot: &LotRow) -> bool
-    ensures { result ≡ is_in_bin_row bin.now seen.now stock.now lot.now }
+// The units of the lot in the bin, by these rows.
+fn units_there(stock: &RowsByKey<'_, (LotId, Name), StockRow>, lot: &LotId, bin: &Name) -> u64
+    ensures { result ≡ stock_qty (stock_found stock.now lot.now bin.now) }
 {
-    is_behind::<ByItem, LotRow>(seen, lot) && units_among(stock, &lot.lot, bin) != 0
+    units_of(stock.find(&(*lot, *bin)))
 }
 
-fn is_in_bin_given(
+fn is_in_bin(
     bin: &Name,
     seen: &Option<LotRow>,
-    stock: &RowsByText<'_, StockRow>,
+    stock: &RowsByKey<'_, (LotId, Name), StockRow>,
     lot: &LotRow,
 ) -> bool
-    ensures { result ≡ is_in_bin_given_lem bin.now seen.now stock.now lot.now }
+    ensures { result ≡ is_in_bin_row bin.now seen.now stock.now lot.now }
 {
-    is_in_bin(bin, seen, stock.candidates(&lot.lot.lot), lot)
+    is_behind::<ByItem, LotRow>(seen, lot) && units_there(stock, &lot.lot, bin) != 0
 }
 
-fn lots_given(
-    alloc: Global,
-    bin: &Name,
-    seen: &Option<LotRow>,
-    stock: &RowsByText<'_, StockRow>,
-    lots: &[LotRow],
-) -> Result<Vec<LotRow>, AllocError>
-    ensures { IfOk result (λ v. v.items ≡ filter (is_in_bin_given_lem bin.now seen.now stock.now) lots.now) }
-{
-    let mut in_bin = Vec::new(alloc);
-    for lot in lots {
-        let wanted = is_in_bin_given(bin, seen, stock, lot);
-        push_if(&mut in_bin, wanted, *lot)?;
+// That a lot is shown of the bin.
+#[derive(Drop)]
+struct IsInBin<'a> {
+    bin: Name,
+    seen: Option<LotRow>,
+    stock: RowsByKey<'a, (LotId, Name), StockRow>,
+}
+
+impl Test<LotRow> for IsInBin<'_> {
+    ghost use Rattle.views.specs.GivenBin.{is_in_bin_row};
+
+    ghost test = { λ t k. is_in_bin_row t.bin t.seen t.stock k };
+
+    fn passes(&self, lot: &LotRow) -> bool {
+        is_in_bin(&self.bin, &self.seen, &self.stock, lot)
     }
-    Ok(in_bin)
 }
 
 /// The lots with units in the bin that stand behind the one that was seen last, by item, expiry and first receipt: as many as
@@ -94,8 +97,13 @@ pub fn bin_page(
     ensures shown { (first : ℤ) (acts : List Act) (last : Option KnownLot) → IsHistory first acts → IsLotSeenLast acts last seen → AreInBin first acts bin.now lots.now stock.now
         → IfOk result (λ v. v.items ≡ map (known_row acts) (take (PAGE_MAX + 1) (lots_in_bin first acts bin.now last))) }
 {
-    let given = by_text::<Lot, StockRow>(alloc, stock, lots.len())?;
-    let in_bin = lots_given(alloc, bin, &seen, &given, lots)?;
+    let by_cell = by_key::<(LotId, Name), StockRow>(alloc, stock, lots.len())?;
+    let by = IsInBin {
+        bin: *bin,
+        seen,
+        stock: by_cell,
+    };
+    let in_bin = passing(alloc, lots, &by)?;
     first_in_order::<ByItem, LotRow>(alloc, in_bin.as_slice(), PAGE_MAX + 1)
 }
 
@@ -105,10 +113,11 @@ fn bin_lot(
     day: BusinessDay,
     bin: &Name,
     rows: &Rows,
-    shown: &LotsShown<'_>,
+    stock: &RowsByKey<'_, (LotId, Name), StockRow>,
+    recalls: &RowsByKey<'_, LotId, RecallRow>,
     row: &LotRow,
 ) -> Option<BinLot>
-    ensures { result ≡ bin_lot_found day bin.now rows.now shown.now row.now }
+    ensures { result ≡ bin_lot_found day bin.now rows.now stock.now recalls.now row.now }
 {
     let lot = &row.lot;
     let item = find_row(rows.items.as_slice(), &lot.gtin)?;
@@ -117,8 +126,8 @@ fn bin_lot(
         item,
         lot: lot.lot,
         expiry: row.expiry,
-        qty: units_among(shown.in_bins.candidates(&lot.lot), lot, bin),
-        status: lot_status(day, least.days(), shown.recalls.candidates(&lot.lot), row),
+        qty: units_there(stock, lot, bin),
+        status: status_of(day, least, recalls, row),
     })
 }
 
@@ -136,14 +145,15 @@ fn lots_found(
     day: BusinessDay,
     bin: &Name,
     rows: &Rows,
-    shown: &LotsShown<'_>,
+    stock: &RowsByKey<'_, (LotId, Name), StockRow>,
+    recalls: &RowsByKey<'_, LotId, RecallRow>,
     page: &[LotRow],
 ) -> Result<Vec<BinLot>, AllocError>
-    ensures { IfOk result (λ v. v.items ≡ all_found (bin_lot_found day bin.now rows.now shown.now) page.now) }
+    ensures { IfOk result (λ v. v.items ≡ all_found (bin_lot_found day bin.now rows.now stock.now recalls.now) page.now) }
 {
     let mut lots = Vec::new(alloc);
     for row in page {
-        let found = bin_lot(day, bin, rows, shown, row);
+        let found = bin_lot(day, bin, rows, stock, recalls, row);
         push_found(&mut lots, found)?;
     }
     Ok(lots)
@@ -158,8 +168,9 @@ fn bin_lots(
 ) -> Result<Vec<BinLot>, AllocError>
     ensures { IfOk result (λ v. v.items ≡ all_found (bin_lot_seen day bin.now rows.now) page.now) }
 {
-    let shown = lots_shown(alloc, rows, page.len())?;
-    lots_found(alloc, day, bin, rows, &shown, page)
+    let stock = by_key::<(LotId, Name), StockRow>(alloc, rows.stock.as_slice(), page.len())?;
+    let recalls = by_key::<LotId, RecallRow>(alloc, rows.recalls.as_slice(), page.len())?;
+    lots_found(alloc, day, bin, rows, &stock, &recalls, page)
 }
 
 /// What is shown on a business day of a page of the lots in a bin whose row this is, which has one more where they go on

@@ -1,12 +1,13 @@
 //! What is shown of lots that expire.
 
-ghost use Rattle.std.specs.Prelude.{◌≡◌, ◌+◌, ◌++◌, [], map, filter, take, int_lt, not, option_map, IfOk, OnOk, ℤ, List, Option, length};
+ghost use Rattle.std.specs.Prelude.{◌≡◌, ◌+◌, ◌++◌, [], map, take, int_lt, not, option_map, IfOk, OnOk, ℤ, List, Option, length};
 ghost use Rattle.std.specs.List.{cons_option};
 ghost use Rattle.machine.specs.Acts.{Act};
 ghost use Rattle.machine.specs.Once.{IsHistory};
 ghost use Rattle.machine.specs.Standing.{KnownLot, today};
+ghost use Rattle.row_rules.specs.Seen.{lot_units};
 ghost use Rattle.overviews.specs.Pages.{expiring_lots, expiring_view as expiring_view_lem};
-ghost use Rattle.views.specs.GivenExpiring.{is_expiring_row, is_expiring_given as is_expiring_given_lem, lots_and_more, item_lot_found as item_lot_found_lem, item_lot_seen, all_found, expiring_seen, with_lot};
+ghost use Rattle.views.specs.GivenExpiring.{is_expiring_row, lots_and_more, item_lot_found as item_lot_found_lem, item_lot_seen, all_found, expiring_seen, with_lot};
 ghost use Rattle.views.specs.ShownExpiring.{known_row, IsLotSeenLast, AreInHouse, AreOfLotsPage};
 
 use crate::least::least_of;
@@ -15,14 +16,13 @@ use crate::stock::{LotsShown, lot_view, lots_shown};
 use commands::{ItemRow, Listed, LotRow, LotView, StagedRow, StockRow};
 use label::{BusinessDay, Day};
 use overviews::{ExpiringView, ItemLot, PAGE_MAX};
-use row_rules::cards::lot_units;
 use row_rules::in_order::Order;
-use row_rules::list_parts::push_if;
-use row_rules::row_index::{RowsByText, by_text};
+use row_rules::loops::{Test, passing};
 use row_rules::row_search::find_row;
+use row_rules::rows_by_key::{RowsByKey, by_key};
 use rules::Rows;
 use std::alloc::{AllocError, Global};
-use values::Lot;
+use values::LotId;
 
 /// The order of lots: by expiry, and then by first receipt.
 pub struct ByExpiry;
@@ -48,50 +48,50 @@ fn is_up_to(day: Day, expiry: Day) -> bool
     !later
 }
 
+// The units of a lot in bins and on stages, by these rows.
+fn units_in_house(
+    lot: &LotId,
+    stock: &RowsByKey<'_, LotId, StockRow>,
+    staged: &RowsByKey<'_, LotId, StagedRow>,
+) -> u64
+    ensures { result ≡ lot_units lot.now stock.now staged.now }
+{
+    let in_bins = stock.units(lot);
+    let on_stages = staged.units(lot);
+    in_bins.saturating_add(on_stages)
+}
+
 fn is_expiring(
     day: Day,
     seen: &Option<LotRow>,
-    stock: &[StockRow],
-    staged: &[StagedRow],
+    stock: &RowsByKey<'_, LotId, StockRow>,
+    staged: &RowsByKey<'_, LotId, StagedRow>,
     lot: &LotRow,
 ) -> bool
     ensures { result ≡ is_expiring_row day seen.now stock.now staged.now lot.now }
 {
     is_behind::<ByExpiry, LotRow>(seen, lot)
         && is_up_to(day, lot.expiry)
-        && lot_units(&lot.lot, stock, staged) != 0
+        && units_in_house(&lot.lot, stock, staged) != 0
 }
 
-fn is_expiring_given(
+// That a lot is shown as one that expires.
+#[derive(Drop)]
+struct IsExpiring<'a> {
     day: Day,
-    seen: &Option<LotRow>,
-    stock: &RowsByText<'_, StockRow>,
-    staged: &RowsByText<'_, StagedRow>,
-    lot: &LotRow,
-) -> bool
-    ensures { result ≡ is_expiring_given_lem day seen.now stock.now staged.now lot.now }
-{
-    let in_bins = stock.candidates(&lot.lot.lot);
-    let on_stages = staged.candidates(&lot.lot.lot);
-    is_expiring(day, seen, in_bins, on_stages, lot)
+    seen: Option<LotRow>,
+    stock: RowsByKey<'a, LotId, StockRow>,
+    staged: RowsByKey<'a, LotId, StagedRow>,
 }
 
-fn expiring_given(
-    alloc: Global,
-    day: Day,
-    seen: &Option<LotRow>,
-    stock: &RowsByText<'_, StockRow>,
-    staged: &RowsByText<'_, StagedRow>,
-    lots: &[LotRow],
-) -> Result<Vec<LotRow>, AllocError>
-    ensures { IfOk result (λ v. v.items ≡ filter (is_expiring_given_lem day seen.now stock.now staged.now) lots.now) }
-{
-    let mut expiring = Vec::new(alloc);
-    for lot in lots {
-        let wanted = is_expiring_given(day, seen, stock, staged, lot);
-        push_if(&mut expiring, wanted, *lot)?;
+impl Test<LotRow> for IsExpiring<'_> {
+    ghost use Rattle.views.specs.GivenExpiring.{is_expiring_row};
+
+    ghost test = { λ t k. is_expiring_row t.day t.seen t.stock t.staged k };
+
+    fn passes(&self, lot: &LotRow) -> bool {
+        is_expiring(self.day, &self.seen, &self.stock, &self.staged, lot)
     }
-    Ok(expiring)
 }
 
 /// The lots with units in the house that expire up to a day and stand behind the one that was seen last, by expiry and first
@@ -109,9 +109,15 @@ pub fn expiring_page(
     ensures shown { (first : ℤ) (acts : List Act) (last : Option KnownLot) → IsHistory first acts → IsLotSeenLast acts last seen → AreInHouse first acts lots.now stock.now staged.now
         → IfOk result (λ v. v.items ≡ map (known_row acts) (take (PAGE_MAX + 1) (expiring_lots first acts day last))) }
 {
-    let in_bins = by_text::<Lot, StockRow>(alloc, stock, lots.len())?;
-    let on_stages = by_text::<Lot, StagedRow>(alloc, staged, lots.len())?;
-    let expiring = expiring_given(alloc, day, &seen, &in_bins, &on_stages, lots)?;
+    let in_bins = by_key::<LotId, StockRow>(alloc, stock, lots.len())?;
+    let on_stages = by_key::<LotId, StagedRow>(alloc, staged, lots.len())?;
+    let by = IsExpiring {
+        day,
+        seen,
+        stock: in_bins,
+        staged: on_stages,
+    };
+    let expiring = passing(alloc, lots, &by)?;
     first_in_order::<ByExpiry, LotRow>(alloc, expiring.as_slice(), PAGE_MAX + 1)
 }
 

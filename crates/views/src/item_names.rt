@@ -1,23 +1,22 @@
 //! What is shown of items.
 
-ghost use Rattle.std.specs.Prelude.{◌≡◌, ◌+◌, [], map, filter, take, option_map, IfOk, List, Option, length, ℤ};
+ghost use Rattle.std.specs.Prelude.{◌≡◌, ◌+◌, [], map, take, option_map, IfOk, List, Option, length, ℤ};
 ghost use Rattle.commands.specs.declared.command.NewItem.{NewItem};
 ghost use Rattle.machine.specs.Acts.{Act};
 ghost use Rattle.machine.specs.Once.{IsHistory};
-ghost use Rattle.row_rules.specs.LookUps.{rows_given};
 ghost use Rattle.row_rules.specs.Plans.{inserted};
-ghost use Rattle.overviews.specs.Pages.{is_behind as is_behind_lem, items_behind as items_behind_lem, item_names_view as item_names_view_lem};
-ghost use Rattle.views.specs.GivenNames.{item_before, items_and_more, named_seen, named_given, names_seen};
+ghost use Rattle.overviews.specs.Pages.{items_behind as items_behind_lem, item_names_view as item_names_view_lem};
+ghost use Rattle.views.specs.GivenNames.{item_before, items_and_more, named_seen, names_seen};
 ghost use Rattle.views.specs.ShownNames.{row_of_item, AreItems, AreAsked};
 
-use crate::least::least_of;
+use crate::least::least_found;
 use crate::pages::{front_of, is_behind};
 use crate::text_order::is_text_before;
 use commands::{ItemRow, LeastRow, Listed};
 use overviews::{ItemNamesView, NAMES_MAX, NamedItem};
 use row_rules::in_order::Order;
-use row_rules::list_parts::push_if;
-use row_rules::row_index::{RowsByText, by_text};
+use row_rules::loops::{Make, Test, each_made, passing};
+use row_rules::rows_by_key::{RowsByKey, by_key};
 use std::alloc::{AllocError, Global};
 use values::Gtin;
 
@@ -36,19 +35,21 @@ impl Order<ItemRow> for ByGtin {
 
 // Which items
 
-fn items_behind(
-    alloc: Global,
-    seen: &Option<ItemRow>,
-    items: &[ItemRow],
-) -> Result<Vec<ItemRow>, AllocError>
-    ensures { IfOk result (λ v. v.items ≡ filter (is_behind_lem item_before seen.now) items.now) }
-{
-    let mut behind = Vec::new(alloc);
-    for item in items {
-        let wanted = is_behind::<ByGtin, ItemRow>(seen, item);
-        push_if(&mut behind, wanted, *item)?;
+// That an item stands behind the one that was seen last.
+#[derive(Clone, Copy)]
+struct IsBehind {
+    seen: Option<ItemRow>,
+}
+
+impl Test<ItemRow> for IsBehind {
+    ghost use Rattle.overviews.specs.Pages.{is_behind as is_behind_lem};
+    ghost use Rattle.views.specs.GivenNames.{item_before};
+
+    ghost test = { λ t i. is_behind_lem item_before t.seen i };
+
+    fn passes(&self, item: &ItemRow) -> bool {
+        is_behind::<ByGtin, ItemRow>(&self.seen, item)
     }
-    Ok(behind)
 }
 
 // The items by GTIN. Of two that tie, which items of books do not, the later in the list stands first.
@@ -72,7 +73,7 @@ pub fn items_page(
     ensures shown { (first : ℤ) (acts : List Act) (last : Option NewItem) → IsHistory first acts → seen ≡ option_map row_of_item last → AreItems acts items.now
         → IfOk result (λ v. v.items ≡ map row_of_item (take (NAMES_MAX + 1) (items_behind_lem acts last))) }
 {
-    let behind = items_behind(alloc, &seen, items)?;
+    let behind = passing(alloc, items, &IsBehind { seen })?;
     let mut ordered = by_gtin(alloc, behind.as_slice())?;
     ordered.truncate(NAMES_MAX + 1);
     Ok(ordered)
@@ -80,23 +81,23 @@ pub fn items_page(
 
 // What is shown of them
 
-fn named_items(
-    alloc: Global,
-    least: &RowsByText<'_, LeastRow>,
-    items: &[ItemRow],
-) -> Result<Vec<NamedItem>, AllocError>
-    ensures { IfOk result (λ v. v.items ≡ map (named_given (rows_given least.now)) items.now) }
-{
-    let mut named = Vec::new(alloc);
-    for item in items {
-        let own = least.candidates(&item.gtin);
-        let days = least_of(own, &item.gtin);
-        named.push(NamedItem {
+// An item with the days that it asks for, by these rows.
+#[derive(Drop)]
+struct Named<'a> {
+    least: RowsByKey<'a, Gtin, LeastRow>,
+}
+
+impl Make<ItemRow, NamedItem> for Named<'_> {
+    ghost use Rattle.views.specs.GivenNames.{named_seen};
+
+    ghost made = { λ m i. named_seen m.least i };
+
+    fn make(&self, _: Global, item: &ItemRow) -> Result<NamedItem, AllocError> {
+        Ok(NamedItem {
             item: *item,
-            least: days,
-        })?;
+            least: least_found(&self.least, &item.gtin),
+        })
     }
-    Ok(named)
 }
 
 fn items_shown(
@@ -106,8 +107,8 @@ fn items_shown(
 ) -> Result<Vec<NamedItem>, AllocError>
     ensures { IfOk result (λ v. v.items ≡ map (named_seen least.now) items.now) }
 {
-    let least = by_text::<Gtin, LeastRow>(alloc, least, items.len())?;
-    named_items(alloc, &least, items)
+    let least = by_key::<Gtin, LeastRow>(alloc, least, items.len())?;
+    each_made(alloc, items, &Named { least })
 }
 
 /// What is shown of items, of which there is one more where they go on (`items_page`), after so many acts. The rows are what

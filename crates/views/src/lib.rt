@@ -19,6 +19,7 @@ mod stock;
 mod text_order;
 
 pub use bin_lots::{bin_page, bin_view};
+pub use bins::bins_of_lot;
 pub use expiring::{expiring_page, expiring_view};
 pub use item_names::{item_names_view, items_page};
 pub use item_shorts::short_view;

@@ -5,23 +5,22 @@ ghost use Rattle.values.specs.Values.{same_text};
 ghost use Rattle.machine.specs.Acts.{Act};
 ghost use Rattle.machine.specs.Once.{IsHistory};
 ghost use Rattle.machine.specs.Standing.{Placed};
-ghost use Rattle.row_rules.specs.LookUps.{rows_given};
 ghost use Rattle.overviews.specs.Pages.{open_orders, open_orders_view as open_orders_view_lem};
 ghost use Rattle.views.specs.ShownOpen.{AreOpen, AreOfPage, IsSeenLast, served_order};
-ghost use Rattle.views.specs.GivenOpen.{served as served_lem, served_given as served_given_lem, is_listed as is_listed_lem, page_and_more, line_units as line_units_lem, no_units as no_units_lem, with_units as with_units_lem, order_units as order_units_lem, class_of as class_of_lem, open_order_told, open_order_given, open_orders_told};
+ghost use Rattle.views.specs.GivenOpen.{served as served_lem, is_listed as is_listed_lem, listed as listed_lem, page_and_more, line_units as line_units_lem, no_units as no_units_lem, with_units as with_units_lem, order_units as order_units_lem, class_of as class_of_lem, open_order_told, open_orders_told};
 
-use crate::line_short::short_by;
+use crate::line_short::short_found;
 use crate::pages::{first_in_order, is_behind, page_of};
 use commands::{LineRow, Listed, OrderClass, OrderRow, ReservedRow, StagedRow, UrgentRow};
 use overviews::{OpenOrder, OpenOrdersView, PAGE_MAX};
 use row_rules::demands::is_open;
 use row_rules::having::Has;
 use row_rules::in_order::Order;
-use row_rules::row_index::{RowsByText, by_text};
-use row_rules::row_search::{has_row, units_with};
+use row_rules::loops::{Make, each_made};
+use row_rules::rows_by_key::{RowsByKey, by_key};
 use rules::Rows;
 use std::alloc::{AllocError, Global};
-use values::Name;
+use values::{Gtin, Name};
 
 /// An order, and whether it is urgent.
 #[derive(Clone, Copy)]
@@ -57,11 +56,11 @@ impl Order<ServedOrder> for ByService {
 
 // Which orders
 
-fn served(urgents: &[UrgentRow], order: &OrderRow) -> ServedOrder
+fn served(urgents: &RowsByKey<'_, Name, UrgentRow>, order: &OrderRow) -> ServedOrder
     ensures { result ≡ served_lem urgents.now order.now }
 {
     ServedOrder {
-        urgent: has_row(urgents, &order.order),
+        urgent: urgents.has(&order.order),
         row: *order,
     }
 }
@@ -86,18 +85,17 @@ fn push_listed(
 }
 
 // The open orders behind the one that was seen last.
-fn listed_given(
+fn orders_listed(
     alloc: Global,
-    urgents: &RowsByText<'_, UrgentRow>,
+    urgents: &RowsByKey<'_, Name, UrgentRow>,
     seen: &Option<ServedOrder>,
     orders: &[OrderRow],
 ) -> Result<Vec<ServedOrder>, AllocError>
-    ensures { IfOk result (λ v. v.items ≡ filter (is_listed_lem seen.now) (map (served_given_lem (rows_given urgents.now)) orders.now)) }
+    ensures { IfOk result (λ v. v.items ≡ listed_lem urgents.now seen.now orders.now) }
 {
     let mut listed = Vec::new(alloc);
     for order in orders {
-        let own = urgents.candidates(&order.order);
-        push_listed(&mut listed, seen, served(own, order))?;
+        push_listed(&mut listed, seen, served(urgents, order))?;
     }
     Ok(listed)
 }
@@ -114,8 +112,8 @@ pub fn open_page(
     ensures shown { (first : ℤ) (acts : List Act) (last : Option Placed) → IsHistory first acts → IsSeenLast first acts last seen → AreOpen first acts orders.now urgents.now
         → IfOk result (λ v. v.items ≡ map (served_order first acts) (take (PAGE_MAX + 1) (open_orders first acts last))) }
 {
-    let by_name = by_text::<Name, UrgentRow>(alloc, urgents, orders.len())?;
-    let listed = listed_given(alloc, &by_name, &seen, orders)?;
+    let by_name = by_key::<Name, UrgentRow>(alloc, urgents, orders.len())?;
+    let listed = orders_listed(alloc, &by_name, &seen, orders)?;
     first_in_order::<ByService, ServedOrder>(alloc, listed.as_slice(), PAGE_MAX + 1)
 }
 
@@ -144,8 +142,8 @@ fn no_units() -> OrderUnits
 }
 
 fn line_units(
-    staged: &[StagedRow],
-    reserved: &[ReservedRow],
+    staged: &RowsByKey<'_, (Name, Gtin), StagedRow>,
+    reserved: &RowsByKey<'_, (Name, Gtin), ReservedRow>,
     order: &OrderRow,
     line: &LineRow,
 ) -> OrderUnits
@@ -153,10 +151,10 @@ fn line_units(
 {
     OrderUnits {
         ordered: line.ordered,
-        reserved: units_with(reserved, &(order.order, line.gtin)),
+        reserved: reserved.units(&(order.order, line.gtin)),
         shipped: line.shipped,
-        short: short_by(staged, reserved, order, line),
-        staged: units_with(staged, &(order.order, line.gtin)),
+        short: short_found(staged, reserved, order, line),
+        staged: staged.units(&(order.order, line.gtin)),
     }
 }
 
@@ -175,8 +173,8 @@ fn with_units(some: &OrderUnits, more: &OrderUnits) -> OrderUnits
 
 fn with_line(
     units: &OrderUnits,
-    staged: &[StagedRow],
-    reserved: &[ReservedRow],
+    staged: &RowsByKey<'_, (Name, Gtin), StagedRow>,
+    reserved: &RowsByKey<'_, (Name, Gtin), ReservedRow>,
     order: &OrderRow,
     line: &LineRow,
 ) -> OrderUnits
@@ -192,8 +190,8 @@ fn with_line(
 // The units of the lines of the order.
 fn order_units(
     lines: &[LineRow],
-    staged: &[StagedRow],
-    reserved: &[ReservedRow],
+    staged: &RowsByKey<'_, (Name, Gtin), StagedRow>,
+    reserved: &RowsByKey<'_, (Name, Gtin), ReservedRow>,
     order: &OrderRow,
 ) -> OrderUnits
     ensures { result ≡ order_units_lem lines.now staged.now reserved.now order.now }
@@ -218,14 +216,15 @@ fn class_of(urgent: bool) -> OrderClass
 }
 
 fn open_order(
-    lines: &[LineRow],
-    staged: &[StagedRow],
-    reserved: &[ReservedRow],
+    lines: &RowsByKey<'_, Name, LineRow>,
+    staged: &RowsByKey<'_, (Name, Gtin), StagedRow>,
+    reserved: &RowsByKey<'_, (Name, Gtin), ReservedRow>,
     order: &ServedOrder,
 ) -> OpenOrder
     ensures { result ≡ open_order_told lines.now staged.now reserved.now order.now }
 {
-    let units = order_units(lines, staged, reserved, &order.row);
+    let own = lines.candidates(&order.row.order);
+    let units = order_units(own, staged, reserved, &order.row);
     OpenOrder {
         class: class_of(order.urgent),
         customer: order.row.customer,
@@ -238,23 +237,22 @@ fn open_order(
     }
 }
 
-fn orders_given(
-    alloc: Global,
-    lines: &RowsByText<'_, LineRow>,
-    staged: &RowsByText<'_, StagedRow>,
-    reserved: &RowsByText<'_, ReservedRow>,
-    orders: &[ServedOrder],
-) -> Result<Vec<OpenOrder>, AllocError>
-    ensures { IfOk result (λ v. v.items ≡ map (open_order_given (rows_given lines.now) (rows_given staged.now) (rows_given reserved.now)) orders.now) }
-{
-    let mut shown = Vec::new(alloc);
-    for order in orders {
-        let own_lines = lines.candidates(&order.row.order);
-        let own_staged = staged.candidates(&order.row.order);
-        let own_reserved = reserved.candidates(&order.row.order);
-        shown.push(open_order(own_lines, own_staged, own_reserved, order))?;
+// An open order, by these rows.
+#[derive(Drop)]
+struct OrderShown<'a> {
+    lines: RowsByKey<'a, Name, LineRow>,
+    staged: RowsByKey<'a, (Name, Gtin), StagedRow>,
+    reserved: RowsByKey<'a, (Name, Gtin), ReservedRow>,
+}
+
+impl Make<ServedOrder, OpenOrder> for OrderShown<'_> {
+    ghost use Rattle.views.specs.GivenOpen.{open_order_told};
+
+    ghost made = { λ m o. open_order_told m.lines m.staged m.reserved o };
+
+    fn make(&self, _: Global, order: &ServedOrder) -> Result<OpenOrder, AllocError> {
+        Ok(open_order(&self.lines, &self.staged, &self.reserved, order))
     }
-    Ok(shown)
 }
 
 fn orders_shown(
@@ -266,10 +264,15 @@ fn orders_shown(
 ) -> Result<Vec<OpenOrder>, AllocError>
     ensures { IfOk result (λ v. v.items ≡ map (open_order_told lines.now staged.now reserved.now) orders.now) }
 {
-    let lines = by_text::<Name, LineRow>(alloc, lines, orders.len())?;
-    let staged = by_text::<Name, StagedRow>(alloc, staged, orders.len())?;
-    let reserved = by_text::<Name, ReservedRow>(alloc, reserved, orders.len())?;
-    orders_given(alloc, &lines, &staged, &reserved, orders)
+    let lines = by_key::<Name, LineRow>(alloc, lines, orders.len())?;
+    let staged = by_key::<(Name, Gtin), StagedRow>(alloc, staged, orders.len())?;
+    let reserved = by_key::<(Name, Gtin), ReservedRow>(alloc, reserved, orders.len())?;
+    let shown = OrderShown {
+        lines,
+        staged,
+        reserved,
+    };
+    each_made(alloc, orders, &shown)
 }
 
 /// What is shown of a page of open orders, which has one more where they go on (`open_page`), after so many acts. The rows

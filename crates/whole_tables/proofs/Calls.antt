@@ -1,6 +1,5 @@
 -- Calls that change nothing.
-use Rattle.std.proofs.Common.{arith, ◌∙◌}
-use Rattle.sqlite.specs.State.{State, HasCleanDisk, Survives, IsUnchanged}
+use Rattle.whole_tables.proofs.Words.{arith, ◌∙◌, State, HasCleanDisk, Survives, IsUnchanged}
 
 -- two such calls change nothing
 pub unchanged_then : (a b c : State) → IsUnchanged a b → IsUnchanged b c → IsUnchanged a c

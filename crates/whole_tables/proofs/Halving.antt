@@ -1,40 +1,6 @@
 -- What a query of half a table shows, and how the halves make the whole.
-use Rattle.std.proofs.Common.{◌≡◌, ◌↔◌, inl, inr, ℕ, ℤ, Bool, true, false, not, ◌&&◌, List, [], ◌∷◌, ◌++◌, ◌∙◌, Ordering, Less, Equal, Greater, is_le, is_gt, int_cmp, map, filter, true≢false, Some, Vec, Global, Result, Ok, Err, refl, sym, ap, ap₂, subst, arith}
-use Rattle.std.specs.Prelude.{IsTrue}
-use Rattle.std.specs.List.{AllByRecursion}
-use Rattle.std.proofs.lemmas.Bool.{cases_Bool}
-use Rattle.std.proofs.lemmas.Int.{ints}
-use Rattle.std.proofs.lemmas.List.{map-append}
-use Rattle.std.proofs.lemmas.List.Elements.{filter-append}
-use Rattle.sqlite.specs.declared.types.Value.{Value}
-use Rattle.sqlite.specs.declared.types.Value.TheVariants.{Null, Int, Real, Text, Blob}
-use Rattle.sqlite.specs.Collation.TheVariants.{Binary}
-use Rattle.sqlite.specs.Effect.{Database}
-use Rattle.sqlite.specs.Order.{Row}
-use Rattle.sqlite.specs.State.{State, HasCleanDisk, Shown}
-use Rattle.sqlite.proofs.Callers.{reads_as}
-use Rattle.sqlite_sql.specs.declared.ops.BinaryOp.TheVariants.{Compare}
-use Rattle.sqlite_sql.specs.declared.ops.CompareOp.TheVariants.{Le, Gt}
-use Rattle.sqlite_sql.specs.Ops.{binary, is_true, from_truth}
-use Rattle.sqlite_value.specs.Order.{value_cmp}
-use Rattle.sqlite_value.proofs.OrderLemmas.{value_cmp-Int}
-use Rattle.sqlite_keyed.proofs.ListLemmas.{all-append, all-filter}
-use Rattle.sqlite_trees.specs.Tree.{IsAscending, rowid}
-use Rattle.sqlite_trees.specs.View.{is_int}
-use Rattle.table_words.specs.Cells.{typed}
-use Rattle.table_words.specs.Schema.{schema_with}
-use Rattle.table_words.specs.Steps.{IsReady}
-use Rattle.table_words.specs.declared.error.TableFault.{TableFault}
-use Rattle.table_words.specs.declared.error.TableFault.TheVariants.{Foreign}
-use Rattle.table_words.proofs.CallLemmas.{inside_then}
-use Rattle.table_words.proofs.CellLemmas.{and_true, both_typed, shown_typed}
-use Rattle.table_words.proofs.ScanLemmas.{show, in_order}
-use Rattle.keyed_rows.specs.Described.{Described, IsLawful}
-use Rattle.keyed_rows.proofs.Laws.{rows_of as kept_rows}
-use Rattle.whole_tables.specs.declared.halves.Half.{Half}
-use Rattle.whole_tables.specs.declared.halves.Half.TheVariants.{Lower, Upper}
-use Rattle.whole_tables.specs.Halves.{HalvesAre, test_of, is_in, half_of, FindsHalf, FindsStored}
-use Rattle.whole_tables.specs.Whole.{rows_of}
+use Rattle.whole_tables.proofs.Words.{◌≡◌, ◌↔◌, inl, inr, ℕ, ℤ, Bool, true, false, not, ◌&&◌, List, [], ◌∷◌, ◌++◌, ◌∙◌, Ordering, Less, Equal, Greater, is_le, is_gt, int_cmp, map, filter, true≢false, Some, Vec, Global, Result, Ok, Err, refl, sym, ap, ap₂, subst, arith, IsTrue, AllByRecursion, cases_Bool, ints, map-append, filter-append, Value, Null, Int, Real, Text, Blob, Binary, Database, Row, State, HasCleanDisk, Shown, reads_as, Compare, Le, Gt, is_true, from_truth, value_cmp, value_cmp-Int, all-append, all-filter, IsAscending, rowid, is_int, typed, schema_with, IsReady, TableFault, Foreign, inside_then, and_true, both_typed, shown_typed, show, in_order, Described, IsLawful, kept_rows, Half, Lower, Upper, HalvesAre, test_of, is_in, half_of, FindsHalf, FindsStored, rows_of}
+use Rattle.sqlite_sql.specs.Ops.{binary}
 use Rattle.whole_tables.proofs.Calls.{unchanged_then, earlier}
 
 module _ {X K : Type 0} (d : Described X K) (laws : IsLawful d) (text : Half → List ℕ) (are : HalvesAre d text) (part : Half) (middle : ℤ) (old new : State) (ready : IsReady old.now) (rows : List Row) (h : Shown (text part) (Int middle ∷ []) old new rows) where

@@ -1,21 +1,5 @@
 -- What a sink takes of a table that is handed over whole.
-use Rattle.std.proofs.Common.{◌≡◌, true, ℕ, List, [], ◌∙◌, map, refl, sym, ap, Result}
-use Rattle.std.specs.List.{AllByRecursion}
-use Rattle.sqlite.specs.declared.types.Value.TheVariants.{Null}
-use Rattle.sqlite.specs.Order.{Row}
-use Rattle.sqlite.specs.State.{State, Shown}
-use Rattle.sqlite.proofs.Callers.{reads_as}
-use Rattle.table_words.specs.Schema.{schema_with}
-use Rattle.table_words.specs.Steps.{IsReady}
-use Rattle.table_words.specs.Typed.{tables_in, AreTyped}
-use Rattle.table_words.proofs.CellLemmas.{both_typed, shown_typed}
-use Rattle.table_words.proofs.ScanLemmas.{show, in_order}
-use Rattle.keyed_rows.specs.Described.{Described, IsLawful}
-use Rattle.keyed_rows.proofs.Laws.{rows_of as kept_rows, typed_rows, found_by_key}
-use Rattle.each_row.specs.declared.fault.EachFault.{EachFault}
-use Rattle.each_row.specs.Handed.{Hands, HandsOver}
-use Rattle.each_row.proofs.Over.{rest_shown, over}
-use Rattle.whole_tables.specs.Whole.{AreAll, WholeIs, rows_of, typed_rows_of}
+use Rattle.whole_tables.proofs.Words.{◌≡◌, true, ℕ, List, [], ◌∙◌, map, refl, sym, ap, Result, AllByRecursion, Null, Row, State, Shown, reads_as, schema_with, IsReady, tables_in, AreTyped, both_typed, shown_typed, show, in_order, Described, IsLawful, kept_rows, typed_rows, found_by_key, EachFault, Hands, HandsOver, rest_shown, over, AreAll, WholeIs, rows_of, typed_rows_of}
 use Rattle.whole_tables.proofs.Wholes.{all_kept}
 
 module _ {X K : Type 0} (d : Described X K) (laws : IsLawful d) (text : List ℕ) (is : WholeIs d text) (old : State) (ready : IsReady old.now) where

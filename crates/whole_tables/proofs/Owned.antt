@@ -1,10 +1,5 @@
 -- Rows of which each key has one are found under their own keys.
-use Rattle.std.proofs.Common.{◌≡◌, Bool, true, false, List, [], ◌∷◌, ◌++◌, find, inl, inr, refl, sym, ap, ◌∙◌, Option, Some, true≢false}
-use Rattle.std.specs.List.{AllByRecursion, list_any}
-use Rattle.std.proofs.lemmas.Bool.{cases_Bool, and_parts, not-true, false_from_ne_true}
-use Rattle.sqlite_keyed.proofs.ListLemmas.{all_weaker}
-use Rattle.table_words.specs.Found.{no_two}
-use Rattle.table_words.proofs.KeyLemmas.{IsSame}
+use Rattle.whole_tables.proofs.Words.{◌≡◌, Bool, true, false, List, [], ◌∷◌, ◌++◌, find, inl, inr, refl, sym, ap, ◌∙◌, Option, Some, true≢false, AllByRecursion, list_any, cases_Bool, and_parts, not-true, false_from_ne_true, all_weaker, no_two, IsSame}
 
 -- what holds of all holds of one among them
 pub at_place : {X : Type 0} (P : X → Type 0) (xs ys : List X) (y : X) → AllByRecursion P (xs ++ y ∷ ys) → P y

@@ -1,10 +1,5 @@
 -- The query of all rows as one of those that seek rows.
-use Rattle.std.proofs.Common.{◌≡◌, ℕ, true, List, [], ◌∷◌, filter, refl, ap}
-use Rattle.table_words.proofs.Plans.{by_rowid}
-use Rattle.table_words.proofs.ScanLemmas.{in_order}
-use Rattle.keyed_rows.specs.Described.{Described, IsLawful, Query, IsSought}
-use Rattle.keyed_rows.proofs.Laws.{rows_of, found_by_key}
-use Rattle.whole_tables.specs.Whole.{AreAll, WholeIs}
+use Rattle.whole_tables.proofs.Words.{◌≡◌, ℕ, true, List, [], ◌∷◌, filter, refl, ap, by_rowid, in_order, Described, IsLawful, Query, IsSought, kept_rows as rows_of, found_by_key, AreAll, WholeIs}
 
 abbrev pub whole_query : {X K : Type 0} → Described X K → List ℕ → Query X K (Unit {0})
 whole_query d text = record {

@@ -3,14 +3,14 @@
 use crate::entire::Entire;
 use crate::halves::{Half, Halved};
 use crate::texts::{ALL_LEAST, ALL_META, ALL_RECALLS, ALL_STOCK, LOWER_STOCK, UPPER_STOCK};
-use goods_tables::bins::Bins;
-use goods_tables::items::Items;
-use goods_tables::least::Least;
-use goods_tables::lots::Lots;
-use goods_tables::meta::Meta;
-use goods_tables::recalls::Recalls;
-use goods_tables::stock::Stock;
 use keyed_rows::reading::{All, Sought};
+use tables::bins::Bins;
+use tables::items::Items;
+use tables::least::Least;
+use tables::lots::Lots;
+use tables::meta::Meta;
+use tables::recalls::Recalls;
+use tables::stock::Stock;
 
 impl Entire for Meta {
     ghost use Rattle.whole_tables.specs.declared.texts.TheConstants.{ALL_META};
@@ -26,7 +26,7 @@ impl Entire for Meta {
 }
 
 impl Entire for Items {
-    ghost use Rattle.goods_tables.specs.Items.{all_items};
+    ghost use Rattle.tables.specs.Items.{all_items};
     ghost use Rattle.whole_tables.specs.Laws.{items_is};
 
     ghost whole = { all_items.text };
@@ -52,7 +52,7 @@ impl Entire for Least {
 }
 
 impl Entire for Bins {
-    ghost use Rattle.goods_tables.specs.Bins.{all_bins};
+    ghost use Rattle.tables.specs.Bins.{all_bins};
     ghost use Rattle.whole_tables.specs.Laws.{bins_is};
 
     ghost whole = { all_bins.text };
@@ -65,7 +65,7 @@ impl Entire for Bins {
 }
 
 impl Entire for Lots {
-    ghost use Rattle.goods_tables.specs.Lots.{all_lots};
+    ghost use Rattle.tables.specs.Lots.{all_lots};
     ghost use Rattle.whole_tables.specs.Laws.{lots_is};
 
     ghost whole = { all_lots.text };

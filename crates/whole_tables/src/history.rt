@@ -6,10 +6,10 @@ use crate::texts::{
     ALL_CARDS, ALL_REPEATS, ALL_SHIPLINES, ALL_SHIPMENTS, LOWER_CARDS, LOWER_REPEATS,
     LOWER_SHIPLINES, UPPER_CARDS, UPPER_REPEATS, UPPER_SHIPLINES,
 };
-use history_tables::cards::Cards;
-use history_tables::repeats::Repeats;
-use history_tables::shiplines::Shiplines;
-use history_tables::shipments::Shipments;
+use tables::cards::Cards;
+use tables::repeats::Repeats;
+use tables::shiplines::Shiplines;
+use tables::shipments::Shipments;
 
 impl Entire for Shipments {
     ghost use Rattle.whole_tables.specs.declared.texts.TheConstants.{ALL_SHIPMENTS};

@@ -7,11 +7,11 @@ use crate::texts::{
     UPPER_RESERVED,
 };
 use keyed_rows::reading::{All, Sought};
-use order_tables::lines::Lines;
-use order_tables::orders::Orders;
-use order_tables::reserved::Reserved;
-use order_tables::staged::Staged;
-use order_tables::urgents::Urgents;
+use tables::lines::Lines;
+use tables::orders::Orders;
+use tables::reserved::Reserved;
+use tables::staged::Staged;
+use tables::urgents::Urgents;
 
 impl Entire for Orders {
     ghost use Rattle.whole_tables.specs.declared.texts.TheConstants.{ALL_ORDERS};
@@ -53,7 +53,7 @@ impl Entire for Lines {
 }
 
 impl Entire for Staged {
-    ghost use Rattle.order_tables.specs.Staged.{all_staged};
+    ghost use Rattle.tables.specs.Staged.{all_staged};
     ghost use Rattle.whole_tables.specs.Laws.{staged_is};
 
     ghost whole = { all_staged.text };

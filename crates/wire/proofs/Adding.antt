@@ -1,14 +1,6 @@
 -- Tokens that are added one after another.
-use Rattle.std.proofs.Common.{◌≡◌, ℕ, List, [], ◌∷◌, ◌++◌, map, flat_map, Ok, Err, Result, OnOk, refl, sym, ap, ◌∙◌, append_assoc}
-use Rattle.json.specs.Token.{Token}
-use Rattle.json.specs.Print.{print}
-use Rattle.json.specs.Tree.{items_tokens}
-use Rattle.json.specs.Written.{Written, Writes}
-use Rattle.serde_json.specs.Data.{Data}
-use Rattle.serde_json.specs.View.{items_of}
-use Rattle.serde_json.specs.Written.{items_outline, compact_text}
-use Rattle.serde_json.proofs.Texts.{print-outline}
-use Rattle.wire.specs.Tokens.{Adds, data_tokens}
+use Rattle.wire.proofs.Words.{◌≡◌, ℕ, List, [], ◌∷◌, ◌++◌, map, flat_map, Ok, Err, Result, OnOk, refl, sym, ap, ◌∙◌, append_assoc, Token, print, items_tokens, Written, Data, items_of, items_outline, compact_text, print-outline, Adds, data_tokens}
+use Rattle.json.specs.Written.{Writes}
 
 -- a token of the writer
 pub adds_one : {E : Type 0} (r : Result (Unit {0}) E) (old new : Written) (t : Token) → Writes r old new t → OnOk r (Adds old new (t ∷ []))

@@ -1,16 +1,5 @@
 -- A text that needs more bytes is shorter than the longest head and the longest body together.
-use Rattle.std.proofs.Common.{◌≡◌, ℕ, ◌+◌, ◌-◌, ◌<◌, ◌≤◌, true, false, List, [], ◌∷◌, length, take, drop, Option, Some, None, refl, sym, ap, ◌∙◌, inl, inr, arith, length-take, length-drop}
-use Rattle.std.specs.Prelude.{Bool, ◌||◌, nat_lt, if◌then◌else◌, Result, Ok, Err, MatchOption, option_map, codes}
-use Rattle.std.specs.List.{list_any, find, count_by}
-use Rattle.std.proofs.lemmas.Bool.Decides.{nat_tests}
-use Rattle.requests.specs.Head.{HEAD_MAX, BODY_MAX, head_end, fields_of, body_length, is_named, length_field, number_from, Named}
-use Rattle.requests.specs.Requests.{headless, answered, after_head, read_ask, IsCutReading, IsReading}
-use Rattle.requests.specs.Laws.{needs_more}
-use Rattle.requests.specs.declared.fault.WireFault.{WireFault}
-use Rattle.requests.specs.declared.fault.WireFault.TheVariants.{Head, Length, TooLarge}
-use Rattle.requests.specs.declared.ask.Ask.{Ask}
-use Rattle.requests.specs.declared.request.Read.{Read}
-use Rattle.requests.specs.declared.request.Read.TheVariants.{Need, Bad}
+use Rattle.wire.proofs.Words.{◌≡◌, ℕ, ◌+◌, ◌-◌, ◌<◌, ◌≤◌, true, false, List, [], ◌∷◌, length, take, drop, Option, Some, None, refl, sym, ap, ◌∙◌, inl, inr, arith, length-take, length-drop, Bool, ◌||◌, nat_lt, if◌then◌else◌, Result, Ok, Err, MatchOption, option_map, codes, list_any, find, count_by, nat_tests, HEAD_MAX, BODY_MAX, head_end, fields_of, body_length, is_named, length_field, number_from, Named, headless, answered, after_head, read_ask, IsCutReading, IsReading, needs_more, WireFault, Head, Length, TooLarge, Ask, Read, Need, Bad}
 
 -- the length of a body is within its limit
 within : (small large : Bool) (v n : ℕ) → nat_lt BODY_MAX v ≡ large → (if small then Err Length else (if large then Err TooLarge else Ok v)) ≡ Ok n → n ≤ 262144

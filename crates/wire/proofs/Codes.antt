@@ -1,16 +1,5 @@
 -- Every code is a name.
-use Rattle.std.proofs.Common.{refl}
-use Rattle.std.specs.Prelude.{IsTrue}
-use Rattle.values.specs.Values.{is_name}
-use Rattle.values.specs.Faults.{fault_code}
-use Rattle.values.specs.declared.fault.LabelFault.{LabelFault}
-use Rattle.values.specs.declared.fault.LabelFault.TheVariants.{BadPrefix, UnknownIdentifier, CutShort, NotADigit, CheckDigit, VariableMeasure, LotEmpty, LotTooLong, LotCharacter, NoSuchDate, IdentifierRepeated, IdentifierMissing, SeparatorMisplaced, OutOfMemory}
-use Rattle.commands.specs.Refusals.{refusal_code}
-use Rattle.commands.specs.declared.refusal.Refusal.{Refusal}
-use Rattle.commands.specs.declared.refusal.Refusal.TheVariants.{KeyUsed, ActsFull, UnknownItem, UnknownBin, UnknownLot, UnknownOrder, NoSuchLine, ItemExists, BinExists, OrderExists, ItemTwice, OtherExpiry, LotRecalled, LotExpired, LotHeld, LotNotHeld, AlreadyRecalled, NotStoreBin, OrderClosed, StillStaged, NothingStaged, DayNotLater, TooFewDays, NotInBin, OverReserved, OverStaged, SameBin, OverUnits, OverOrdered, NoNotice}
-use Rattle.requests.specs.Faults.{wire_code}
-use Rattle.requests.specs.declared.fault.WireFault.{WireFault}
-use Rattle.requests.specs.declared.fault.WireFault.TheVariants.{Head, Length, Json, Field, Path, Method, TooLarge, Memory}
+use Rattle.wire.proofs.Words.{refl, IsTrue, is_name, fault_code, LabelFault, BadPrefix, UnknownIdentifier, CutShort, NotADigit, CheckDigit, VariableMeasure, LotEmpty, LotTooLong, LotCharacter, NoSuchDate, IdentifierRepeated, IdentifierMissing, SeparatorMisplaced, OutOfMemory, refusal_code, Refusal, KeyUsed, ActsFull, UnknownItem, UnknownBin, UnknownLot, UnknownOrder, NoSuchLine, ItemExists, BinExists, OrderExists, ItemTwice, OtherExpiry, LotRecalled, LotExpired, LotHeld, LotNotHeld, AlreadyRecalled, NotStoreBin, OrderClosed, StillStaged, NothingStaged, DayNotLater, TooFewDays, NotInBin, OverReserved, OverStaged, SameBin, OverUnits, OverOrdered, NoNotice, wire_code, WireFault, Head, Length, Json, Field, Path, Method, TooLarge, Memory}
 
 pub refusal_is_name : (x : Refusal) → IsTrue (is_name (refusal_code x))
 refusal_is_name KeyUsed = refl

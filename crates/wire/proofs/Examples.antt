@@ -1,21 +1,7 @@
 -- Some answers.
-use Rattle.std.proofs.Common.{◌≡◌, ℕ, ℤ, List, codes, refl, ◌++◌, ◌∷◌, [], false, pos, Some, None}
 use Rattle.json.specs.Print.{escape_byte}
-use Rattle.serde_json.specs.Written.{compact_text}
-use Rattle.commands.specs.declared.rows.OrderClass.TheVariants.{Normal}
-use Rattle.commands.specs.declared.command.BinKind.TheVariants.{Store}
-use Rattle.commands.specs.declared.views.LotStatus.TheVariants.{Free}
-use Rattle.overviews.specs.declared.lists.BinLot.{BinLot}
-use Rattle.overviews.specs.declared.lists.OpenOrder.{OpenOrder}
-use Rattle.overviews.specs.declared.lists.NamedItem.{NamedItem}
-use Rattle.wire.specs.Lists.{books_data, open_orders_data, item_names_data, bin_view_data}
 use Rattle.std.specs.Fmt.{digits}
-use Rattle.label.specs.Days.{date_of, date_after, date_in_year}
-use Rattle.commands.specs.Replies.{reply_text}
-use Rattle.commands.specs.declared.replies.ReplyField.TheVariants.{Returned}
-use Rattle.requests.specs.declared.method.Method.TheVariants.{Post}
-use Rattle.wire.specs.Answers.{head_text, answer_text, json_type, CRLF}
-use Rattle.wire.specs.Shorts.{cause_row_text, code_text}
+use Rattle.wire.proofs.Words.{◌≡◌, ℕ, ℤ, List, codes, refl, ◌++◌, ◌∷◌, [], false, pos, Some, None, compact_text, Normal, Store, Free, BinLot, OpenOrder, NamedItem, books_data, open_orders_data, item_names_data, bin_view_data, date_of, date_after, date_in_year, reply_text, Returned, Post, head_text, answer_text, json_type, CRLF, cause_row_text, code_text}
 
 pub a_day_is_opened : answer_text 200 json_type None (reply_text 6 (Some (Returned 0)))
     ≡ codes "HTTP/1.1 200 OK" ++ CRLF ++ codes "content-type: application/json" ++ CRLF ++ codes "content-length: 22" ++ CRLF

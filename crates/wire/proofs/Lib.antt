@@ -1,3 +1,4 @@
+mod Words
 pub mod Adding
 pub mod Texts
 pub mod ShortTexts

@@ -1,10 +1,5 @@
 -- The words of a text, and those of one that has grown.
-use Rattle.std.proofs.Common.{◌≡◌, ◌∙◌, ap, refl, sym, subst, ℕ, true, false, Bool, List, [], ◌∷◌, ◌++◌, if◌then◌else◌, Option, Some, None, option_map, inl, inr, ◌⊎◌}
-use Rattle.std.specs.Option.{option_map_or}
-use Rattle.std.specs.Io.KnownBytes.{Appends}
-use Rattle.texts.specs.Writing.{AppendsBeginning}
-use Rattle.texts.proofs.Beginnings.{beginning_of_none}
-use Rattle.wire.specs.Logging.{is_gap, without_gap, cut_word, next_word, line_with, line_behind, log_line}
+use Rattle.wire.proofs.Words.{◌≡◌, ◌∙◌, ap, refl, sym, subst, ℕ, true, false, Bool, List, [], ◌∷◌, ◌++◌, if◌then◌else◌, Option, Some, None, option_map, inl, inr, ◌⊎◌, option_map_or, Appends, AppendsBeginning, beginning_of_none, is_gap, without_gap, cut_word, next_word, line_with, line_behind, log_line}
 
 -- a word, and what follows it
 abbrev Cut : Type 0

@@ -1,17 +1,5 @@
 -- What is read of a reader and written to a writer.
-use Rattle.std.proofs.Common.{◌≡◌, ◌≢◌, ℕ, ◌+◌, ◌-◌, ◌<◌, true, false, List, [], ◌++◌, length, Option, refl, sym, ap, ◌∙◌, subst, inl, inr, arith, length-append, append-nil}
-use Rattle.std.specs.Global.{Vec}
-use Rattle.std.specs.Io.KnownBytes.{Consumes}
-use Rattle.std.proofs.KnownBytes.{Consumes-trans}
-use Rattle.requests.specs.Requests.{IsReading}
-use Rattle.requests.specs.Laws.{needs_more}
-use Rattle.requests.specs.declared.fault.WireFault.{WireFault}
-use Rattle.requests.specs.declared.fault.WireFault.TheVariants.{Memory}
-use Rattle.requests.specs.declared.request.Read.{Read}
-use Rattle.requests.specs.declared.request.Read.TheVariants.{Need, Bad, Request}
-use Rattle.wire.specs.Serving.{IsRead, IsTaken, stopped}
-use Rattle.wire.specs.declared.serving.Taken.{Taken}
-use Rattle.wire.specs.declared.serving.Taken.TheVariants.{More, End, NoRoom}
+use Rattle.wire.proofs.Words.{◌≡◌, ◌≢◌, ℕ, ◌+◌, ◌-◌, ◌<◌, true, false, List, [], ◌++◌, length, Option, refl, sym, ap, ◌∙◌, subst, inl, inr, arith, length-append, append-nil, Vec, Consumes, Consumes-trans, IsReading, needs_more, WireFault, Memory, Read, Need, Bad, Request, IsRead, IsTaken, stopped, Taken, More, End, NoRoom}
 
 pub needing_has_memory : (r : Read) → needs_more r ≡ true → r ≢ Bad Memory
 needing_has_memory (Need e) h p = cc

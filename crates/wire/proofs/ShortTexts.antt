@@ -1,16 +1,7 @@
 -- The short texts are compact JSON: names have nothing to escape.
-use Rattle.std.proofs.Common.{◌≡◌, refl, ℕ, true, false, List, [], ◌∷◌, arith, append_assoc}
-use Rattle.std.specs.Prelude.{pos, negsuc, ◌==◌, nat_lt, IsTrue, length, Some, None}
-use Rattle.std.specs.List.{list_all}
-use Rattle.std.proofs.lemmas.Bool.Decides.{nat_tests}
-use Rattle.json.specs.Print.{escape, escape_byte}
+use Rattle.wire.proofs.Words.{◌≡◌, refl, ℕ, true, false, List, [], ◌∷◌, arith, append_assoc, pos, negsuc, ◌==◌, nat_lt, IsTrue, length, Some, None, list_all, nat_tests, escape, compact_text, is_name, is_name_char, is_between, NAME_MAX, and_both, code_text, code_data, code_row_text, code_row_data, cause_text, cause_data, cause_row_text, cause_row_data, tally_text, tally_data, ChangedBy, Returned, ShipmentNumber, UnitsShort, CommandAnswersAreJson}
+use Rattle.json.specs.Print.{escape_byte}
 use Rattle.serde_json.proofs.OnLiterals.{serde_json_on_literals}
-use Rattle.serde_json.specs.Written.{compact_text}
-use Rattle.values.specs.Values.{is_name, is_name_char, is_between, NAME_MAX}
-use Rattle.commands.proofs.Joining.{and_both}
-use Rattle.wire.specs.Shorts.{code_text, code_data, code_row_text, code_row_data, cause_text, cause_data, cause_row_text, cause_row_data, tally_text, tally_data}
-use Rattle.commands.specs.declared.replies.ReplyField.TheVariants.{ChangedBy, Returned, ShipmentNumber, UnitsShort}
-use Rattle.wire.specs.Laws.{CommandAnswersAreJson}
 
 -- a byte of a name stands for itself
 byte_as_it_is : (c : ℕ) → is_name_char c ≡ true → escape_byte c ≡ c ∷ []

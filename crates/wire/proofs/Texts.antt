@@ -1,14 +1,5 @@
 -- The texts of values are ASCII, and so they are UTF-8.
-use Rattle.std.proofs.Common.{◌≡◌, ℕ, ◌<◌, true, List, [], ◌∷◌, zero, suc, arith, lit<}
-use Rattle.std.specs.Prelude.{ℤ, IsUtf8, IsTrue}
-use Rattle.std.specs.List.{list_all}
-use Rattle.std.specs.Str.{IsAscii}
-use Rattle.std.proofs.lemmas.Bool.Decides.{nat_tests}
-use Rattle.std.proofs.lemmas.Str.{IsUtf8-from_ascii}
-use Rattle.values.specs.Values.{is_name, is_title, is_gtin, is_lot_text}
-use Rattle.label.specs.Days.{day_text}
-use Rattle.commands.proofs.Joining.{and_both}
-use Rattle.commands.proofs.Printing.{is_printable, Printable, name_printable, title_printable, gtin_printable, lot_printable, day_printable}
+use Rattle.wire.proofs.Words.{◌≡◌, ℕ, ◌<◌, true, List, [], ◌∷◌, zero, suc, arith, lit<, ℤ, IsUtf8, IsTrue, list_all, IsAscii, nat_tests, IsUtf8-from_ascii, is_name, is_title, is_gtin, is_lot_text, day_text, and_both, is_printable, Printable, name_printable, title_printable, gtin_printable, lot_printable, day_printable}
 
 byte_is_ascii : (c : ℕ) → is_printable c ≡ true → c < 128
 byte_is_ascii c e = grind (arith, nat_tests)

@@ -1,9 +1,5 @@
 -- What is written to a writer and flushed.
-use Rattle.std.proofs.Common.{ℕ, List, [], Option, sym, append-nil}
-use Rattle.std.specs.Prelude.{Result, Ok, Err}
-use Rattle.std.specs.Io.KnownBytes.{Appends, Keeps}
-use Rattle.std.proofs.KnownBytes.{Appends-kept}
-use Rattle.texts.specs.Writing.{Writes}
+use Rattle.wire.proofs.Words.{ℕ, List, [], Option, sym, append-nil, Result, Ok, Err, Appends, Keeps, Appends-kept, Writes}
 
 -- the whole is a beginning too
 pub flushed : {X E : Type 0} (r : Result X E) (old mid new : Option (List ℕ)) (bytes : List ℕ) → Appends old mid bytes → Keeps mid new → Writes r old new bytes

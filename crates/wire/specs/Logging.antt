@@ -1,5 +1,5 @@
 -- The line of a log for a request that was answered, as `GET /stock/09506000134352 200 143`.
-use Rattle.std.specs.Prelude.{ℕ, List, [], ◌∷◌, ◌++◌, length, take, drop, map, Bool, nat_lt, if◌then◌else◌, Option, Some, None, option_map, codes, decimal}
+use Rattle.std.specs.Prelude.{◌==◌, ℕ, List, [], ◌∷◌, ◌++◌, length, take, drop, map, Bool, nat_lt, if◌then◌else◌, Option, Some, None, option_map, codes, decimal}
 use Rattle.std.specs.Option.{option_map_or}
 
 -- words are parted by spaces and controls
@@ -30,14 +30,14 @@ WORD_MAX = 200
 abbrev pub shown_word : List ℕ → List ℕ
 shown_word word = map shown_byte (take WORD_MAX word)
 
--- the three digits behind `HTTP/1.1 `
-abbrev pub status_digits : List ℕ → List ℕ
-status_digits bytes = take 3 (drop 9 bytes)
+-- the three digits behind `HTTP/1.1 `, and `-` where no byte was sent
+abbrev pub status_shown : List ℕ → List ℕ
+status_shown bytes = if length bytes == 0 then codes "-" else take 3 (drop 9 bytes)
 
--- the method, the target, the status of the answer, and how many bytes the answer has
+-- the method, the target, the status of the answer, and how many bytes it has
 abbrev pub line_with : (method target bytes : List ℕ) → List ℕ
 line_with method target bytes =
-    shown_word method ++ codes " " ++ shown_word target ++ codes " " ++ status_digits bytes ++ codes " " ++ decimal (length bytes) ++ codes "\n"
+    shown_word method ++ codes " " ++ shown_word target ++ codes " " ++ status_shown bytes ++ codes " " ++ decimal (length bytes) ++ codes "\n"
 
 -- a text begins with its method and its target; nothing where they have not come whole
 abbrev pub line_behind : (method rest bytes : List ℕ) → List ℕ

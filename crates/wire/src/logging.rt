@@ -1,7 +1,7 @@
 //! The line of a log for a request that was answered.
 
 ghost use Rattle.std.specs.Prelude.{◌≡◌, ◌+◌, ◌≤◌, ◌++◌, length, take, drop, option_map};
-ghost use Rattle.wire.specs.Logging.{is_gap as is_gap_lem, without_gap as without_gap_lem, cut_word as cut_word_lem, next_word as next_word_lem, shown_byte as shown_byte_lem, shown_word, line_with as line_with_lem, line_behind as line_behind_lem, log_line as log_line_lem};
+ghost use Rattle.wire.specs.Logging.{is_gap as is_gap_lem, without_gap as without_gap_lem, cut_word as cut_word_lem, next_word as next_word_lem, shown_byte as shown_byte_lem, shown_word, status_shown as status_shown_lem, line_with as line_with_lem, line_behind as line_behind_lem, log_line as log_line_lem};
 ghost use Rattle.texts.specs.Writing.{Writes};
 
 use crate::Block;
@@ -12,9 +12,10 @@ use texts::{TextFault, put};
 const WORD_MAX: usize = 200;
 
 /// Writes the line of a log for a request and its answer: the method, the target, the status, and how many bytes the
-/// answer has, parted by a space. Of the request its first two words are looked at. A byte of them that is no visible
-/// ASCII is written `?`, and 200 bytes of each at most are written; where the two have not come whole, no line is. The fault
-/// is `TextFault` where the log takes no more, and a beginning of the line, maybe all of it, was then written.
+/// answer has, parted by a space. An answer that was not sent has no bytes, and `-` in the place of its status. Of the
+/// request its first two words are looked at. A byte of them that is no visible ASCII is written `?`, and 200 bytes of each
+/// at most are written; where the two have not come whole, no line is. The fault is `TextFault` where the log takes no more,
+/// and a beginning of the line, maybe all of it, was then written.
 pub fn write_log_line<L: Write>(text: &[u8], answer: &[u8], log: &mut L) -> Result<(), TextFault>
     ensures { Writes result (L.contents log.old) (L.contents log.new) (log_line_lem text.now answer.now) }
 {
@@ -47,11 +48,23 @@ fn line_with(method: &[u8], target: &[u8], answer: &[u8]) -> Block
     line.push_all(b" ");
     push_word(&mut line, target);
     line.push_all(b" ");
-    line.push_all(first(behind(answer, 9), 3));
+    line.push_all(status_shown(answer));
     line.push_all(b" ");
     line.push_decimal(answer.len() as u64);
     line.push_all(b"\n");
     line
+}
+
+/// The status of an answer, and `-` where it has no bytes.
+fn status_shown(answer: &[u8]) -> &[u8]
+    ensures value { result.now ≡ status_shown_lem answer.now }
+    ensures size { length result.now ≤ 3 }
+{
+    if answer.is_empty() {
+        b"-"
+    } else {
+        first(behind(answer, 9), 3)
+    }
 }
 
 fn push_word(line: &mut Block, word: &[u8])

@@ -1,19 +1,7 @@
 -- The histories of the worked examples: two items, three bins, two customers.
 -- The first order is act 8 and the second act 9; lot L1 came by act 6, L2 by act 7 and L0 by act 10.
-use Rattle.std.specs.Prelude.{◌≡◌, ℕ, List, [], ◌∷◌, codes, refl, ℤ, pos, None, IsTrue}
 use Rattle.std.specs.Fmt.{digits}
-use Rattle.label.specs.Days.{day_text, date_of, date_after, date_in_year}
-use Rattle.values.specs.declared.lot.LotId.{LotId}
-use Rattle.commands.specs.Sound.{is_sound, is_sound_key}
-use Rattle.commands.specs.declared.key.Key.TheVariants.{Plain, Line}
-use Rattle.commands.specs.declared.command.BinKind.TheVariants.{Store, Hold as HoldBin}
-use Rattle.commands.specs.declared.command.Command.{Command}
-use Rattle.commands.specs.declared.command.Command.TheVariants.{Item, Bin, Receive, Move, Order, Pick}
-use Rattle.plan.specs.declared.Row.{Row}
-use Rattle.machine.specs.Acts.{Act}
-use Rattle.machine.specs.Planning.{plan}
-use Rattle.machine.specs.Once.{IsHistory, bearer, is_key_of}
-use Rattle.machine.specs.Verdict.{verdict}
+use Rattle.machine.proofs.Words.{◌≡◌, ℕ, List, [], ◌∷◌, codes, refl, ℤ, pos, None, IsTrue, day_text, date_of, date_after, date_in_year, LotId, is_sound, is_sound_key, Plain, Line, Store, HoldBin, Command, Item, Bin, Receive, Move, Order, Pick, Row, Act, plan, IsHistory, bearer, is_key_of, verdict}
 
 -- Days of 2026
 

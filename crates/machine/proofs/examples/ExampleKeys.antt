@@ -1,14 +1,6 @@
 -- Requests that come again, goods-in files, and requests that no value's rule admits.
-use Rattle.std.specs.Prelude.{◌≡◌, ℕ, false, List, [], ◌∷◌, codes, refl, ℤ, pos, Some}
 use Rattle.std.specs.Fmt.{digits}
-use Rattle.label.specs.Days.{date_of, date_after, date_in_year}
-use Rattle.commands.specs.Sound.{is_sound}
-use Rattle.commands.specs.Spelling.{spelling}
-use Rattle.commands.specs.declared.command.Command.TheVariants.{Order, Recall, OpenDay}
-use Rattle.commands.specs.declared.refusal.Refusal.TheVariants.{KeyUsed, OverReserved, UnknownBin}
-use Rattle.machine.specs.Acts.{Act}
-use Rattle.machine.specs.Once.{outcome, acts_after, Accepted, Repeated, Refused, file_outcome, acts_after_file, Taken, RefusedRow}
-use Rattle.machine.specs.Tables.{tables_of}
+use Rattle.machine.proofs.Words.{◌≡◌, ℕ, false, List, [], ◌∷◌, codes, refl, ℤ, pos, Some, date_of, date_after, date_in_year, is_sound, spelling, Order, Recall, OpenDay, KeyUsed, OverReserved, UnknownBin, Act, outcome, acts_after, Accepted, Repeated, Refused, file_outcome, acts_after_file, Taken, RefusedRow, tables_of}
 use Rattle.machine.proofs.examples.ExampleHistories.{may_4, may_10, june_30, december_31, warehouse, with_one_order, with_early_lot, with_picks, first_pick, third_receipt, OATS, RYE, A1, A2, S1, L0, L1, L2, lot_of, keyed, delivered, receive, pick}
 
 -- Keys

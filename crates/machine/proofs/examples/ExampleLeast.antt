@@ -1,15 +1,6 @@
 -- The days that the lots of an item must have left.
-use Rattle.std.specs.Prelude.{◌≡◌, ℕ, List, [], ◌∷◌, codes, refl, Some}
 use Rattle.std.specs.Fmt.{digits}
-use Rattle.commands.specs.declared.command.Command.TheVariants.{Least}
-use Rattle.commands.specs.declared.refusal.Refusal.TheVariants.{TooFewDays, UnknownItem}
-use Rattle.commands.specs.declared.views.LotStatus.TheVariants.{ShortDated}
-use Rattle.machine.specs.Acts.{Act}
-use Rattle.machine.specs.Planning.{short_of_order}
-use Rattle.machine.specs.Tables.{least_row}
-use Rattle.machine.specs.Verdict.{verdict}
-use Rattle.machine.specs.Views.{lot_status}
-use Rattle.machine.specs.Replies.{reply}
+use Rattle.machine.proofs.Words.{◌≡◌, ℕ, List, [], ◌∷◌, codes, refl, Some, Least, TooFewDays, UnknownItem, ShortDated, Act, short_of_order, least_row, verdict, lot_status, reply}
 use Rattle.machine.proofs.examples.ExampleHistories.{may_4, may_10, with_early_lot, with_picks, OATS, A1, S1, S2, L0, keyed, pick, oats_planned}
 
 abbrev least : ℕ → Act

@@ -1,9 +1,5 @@
 -- An item near its limit of units in the house.
-use Rattle.std.specs.Prelude.{◌≡◌, ℕ, zero, suc, List, ◌∷◌, codes, refl, Some, None}
-use Rattle.commands.specs.declared.refusal.Refusal.TheVariants.{OverUnits}
-use Rattle.machine.specs.Acts.{Act}
-use Rattle.machine.specs.Planning.{units_in_house}
-use Rattle.machine.specs.Verdict.{verdict}
+use Rattle.machine.proofs.Words.{◌≡◌, ℕ, zero, suc, List, ◌∷◌, codes, refl, Some, None, OverUnits, Act, units_in_house, verdict}
 use Rattle.machine.proofs.examples.ExampleHistories.{may_4, june_30, warehouse, OATS, A1, L1, delivered, receive}
 
 -- n receipts of a million units

@@ -1,18 +1,7 @@
 -- Receipts, orders, counts and their plans.
-use Rattle.std.specs.Prelude.{◌≡◌, [], ◌∷◌, codes, refl, pos, negsuc, Some, None, Ok}
 use Rattle.std.specs.Fmt.{digits}
-use Rattle.commands.specs.declared.command.Command.TheVariants.{Count}
-use Rattle.commands.specs.declared.refusal.Refusal.TheVariants.{LotExpired}
-use Rattle.commands.specs.declared.rows.OrderClass.TheVariants.{Normal}
-use Rattle.commands.specs.declared.rows.OrderState.TheVariants.{Open}
-use Rattle.commands.specs.declared.views.LotStatus.TheVariants.{Free}
-use Rattle.commands.specs.declared.rows.CardKind.TheVariants.{Receipt, WriteOff}
-use Rattle.machine.specs.Acts.{Act}
-use Rattle.machine.specs.Planning.{short_of_order}
-use Rattle.machine.specs.Verdict.{verdict}
-use Rattle.machine.specs.Replies.{reply}
-use Rattle.machine.specs.Tables.{tables_of}
-use Rattle.machine.specs.Queries.{stock_shown, order_shown, short_shown, card_shown}
+use Rattle.machine.proofs.Words.{◌≡◌, [], ◌∷◌, codes, refl, pos, negsuc, Some, None, Ok, Count, LotExpired, Normal, Open, Free, WrittenOff as WriteOff, Act, short_of_order, verdict, reply, tables_of, stock_shown, order_shown, short_shown, card_shown}
+use Rattle.commands.specs.declared.rows.CardKind.TheVariants.{Receipt}
 use Rattle.machine.proofs.examples.ExampleHistories.{may_4, may_10, may_31, june_30, july_31, warehouse, with_one_lot, with_stock, with_one_order, with_two_orders, with_early_lot, first_receipt, second_receipt, third_receipt, first_order, second_order, OATS, A1, S1, S2, L0, L1, L2, lot_of, keyed, delivered, receive, oats_planned}
 
 -- the label's six digits 770101 are read as 1977-01-01

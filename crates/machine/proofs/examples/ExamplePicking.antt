@@ -1,14 +1,6 @@
 -- Picks, moves, adjustments, cancels and shipments.
-use Rattle.std.specs.Prelude.{◌≡◌, ℕ, List, [], ◌∷◌, codes, refl, negsuc, Some, None}
 use Rattle.std.specs.Fmt.{digits}
-use Rattle.commands.specs.declared.command.Command.{Command}
-use Rattle.commands.specs.declared.command.Command.TheVariants.{Adjust, Cancel, Unpick, Ship}
-use Rattle.commands.specs.declared.refusal.Refusal.TheVariants.{OverReserved, NotInBin, SameBin, StillStaged, OverStaged}
-use Rattle.commands.specs.declared.rows.OrderState.TheVariants.{Done}
-use Rattle.machine.specs.Acts.{Act}
-use Rattle.machine.specs.Planning.{short_of_order, order_state, staged_of_lot, reserved}
-use Rattle.machine.specs.Verdict.{verdict}
-use Rattle.machine.specs.Replies.{reply}
+use Rattle.machine.proofs.Words.{◌≡◌, ℕ, List, [], ◌∷◌, codes, refl, negsuc, Some, None, Command, Adjust, Cancel, Unpick, Ship, OverReserved, NotInBin, SameBin, StillStaged, OverStaged, Done, Act, short_of_order, order_state, staged_of_lot, reserved, verdict, reply}
 use Rattle.machine.proofs.examples.ExampleHistories.{may_4, with_early_lot, with_picks, first_pick, second_pick, A1, Q1, S1, S2, L0, L1, L2, keyed, move, pick, oats_planned}
 
 -- Picks

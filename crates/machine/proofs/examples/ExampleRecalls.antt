@@ -1,21 +1,7 @@
 -- Holds, recalls, notices and days.
-use Rattle.std.specs.Prelude.{◌≡◌, true, false, List, [], ◌∷◌, map, codes, refl, pos, negsuc, Some, None, Ok, Err}
 use Rattle.std.specs.Fmt.{digits}
-use Rattle.values.specs.declared.lot.LotId.{LotId}
-use Rattle.commands.specs.declared.command.Command.TheVariants.{Ship, Hold, Release, Recall, OpenDay}
-use Rattle.commands.specs.declared.refusal.Refusal.TheVariants.{LotRecalled, DayNotLater, NoNotice}
-use Rattle.commands.specs.declared.rows.OrderState.TheVariants.{Open}
-use Rattle.commands.specs.declared.rows.CardKind.TheVariants.{Receipt, Shipment}
-use Rattle.machine.specs.Acts.{Act}
-use Rattle.machine.specs.Postings.{Stage, Shipped}
-use Rattle.machine.specs.Standing.{RETURNS}
-use Rattle.machine.specs.Ledger.{postings_of}
-use Rattle.machine.specs.Planning.{bookings, short_of_order, order_state}
-use Rattle.machine.specs.Verdict.{verdict}
-use Rattle.machine.specs.Replies.{reply}
-use Rattle.machine.specs.Tables.{tables_of}
-use Rattle.machine.specs.Laws.{has_of_lot}
-use Rattle.machine.specs.Queries.{short_shown, card_shown, notice_shown}
+use Rattle.machine.proofs.Words.{◌≡◌, true, false, List, [], ◌∷◌, map, codes, refl, pos, negsuc, Some, None, Ok, Err, LotId, Ship, Hold, Release, Recall, OpenDay, LotRecalled, DayNotLater, NoNotice, Open, Shipment, Act, Stage, Shipped, RETURNS, postings_of, bookings, short_of_order, order_state, verdict, reply, tables_of, has_of_lot, short_shown, card_shown, notice_shown}
+use Rattle.commands.specs.declared.rows.CardKind.TheVariants.{Receipt}
 use Rattle.machine.proofs.examples.ExampleHistories.{may_4, may_31, june_1, december_31, warehouse, with_early_lot, with_picks, first_pick, OATS, RYE, A1, A2, S1, S2, L0, L1, L2, lot_of, keyed, receive, move, pick, oats_planned}
 use Rattle.machine.proofs.examples.ExamplePicking.{shipment}
 

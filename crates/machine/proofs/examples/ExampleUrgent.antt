@@ -1,19 +1,7 @@
 -- Urgent orders.
-use Rattle.std.specs.Prelude.{◌≡◌, ℕ, List, [], ◌∷◌, codes, refl, Some, None, Ok}
 use Rattle.std.specs.Fmt.{digits}
-use Rattle.commands.specs.Lists.{total}
-use Rattle.commands.specs.declared.command.Command.TheVariants.{Urgent}
-use Rattle.commands.specs.declared.refusal.Refusal.TheVariants.{OrderExists}
+use Rattle.machine.proofs.Words.{◌≡◌, ℕ, List, [], ◌∷◌, codes, refl, Some, None, Ok, total, Urgent, OrderExists, Open, ShortLine, Act, short_of_order, staged_of_lot, order_shown, short_shown, reply, urgent_row, verdict, short_view}
 use Rattle.commands.specs.declared.rows.OrderClass.TheVariants as class
-use Rattle.commands.specs.declared.rows.OrderState.TheVariants.{Open}
-use Rattle.commands.specs.declared.views.ShortLine.{ShortLine}
-use Rattle.machine.specs.Acts.{Act}
-use Rattle.machine.specs.Planning.{short_of_order, staged_of_lot}
-use Rattle.machine.specs.Queries.{order_shown, short_shown}
-use Rattle.machine.specs.Replies.{reply}
-use Rattle.machine.specs.Tables.{urgent_row}
-use Rattle.machine.specs.Verdict.{verdict}
-use Rattle.machine.specs.Views.{short_view}
 use Rattle.machine.proofs.examples.ExampleHistories.{may_4, may_10, may_31, with_early_lot, with_picks, OATS, A1, S1, S2, L0, L2, keyed, order, oats_planned}
 
 abbrev S3 : List ℕ

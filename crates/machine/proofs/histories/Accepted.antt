@@ -1,25 +1,5 @@
 -- What holds where a command is accepted: the conditions of its refusals, turned.
-use Rattle.std.proofs.Common.{◌≡◌, ℕ, ◌+◌, ◌≤◌, true, false, not, List, [], ◌∷◌, refl}
-use Rattle.std.specs.Prelude.{◌==◌, nat_le, nat_lt, if◌then◌else◌, Some, None, length, ℤ, int_le}
-use Rattle.std.specs.List.{list_any}
-use Rattle.values.specs.Values.{same_text}
-use Rattle.values.specs.declared.lot.LotId.{LotId}
-use Rattle.commands.specs.declared.limits.TheConstants.{ITEMS_MAX, BINS_MAX, UNITS_MAX, OPEN_MAX, ACTS_MAX}
-use Rattle.commands.specs.declared.command.NewItem.{NewItem}
-use Rattle.commands.specs.declared.command.NewBin.{NewBin}
-use Rattle.commands.specs.declared.command.Receipt.{Receipt}
-use Rattle.commands.specs.declared.command.Movement.{Movement}
-use Rattle.commands.specs.declared.command.Recount.{Recount}
-use Rattle.commands.specs.declared.command.Adjustment.{Adjustment}
-use Rattle.commands.specs.declared.command.NewOrder.{NewOrder}
-use Rattle.commands.specs.declared.command.Picking.{Picking}
-use Rattle.commands.specs.declared.command.NewLeast.{NewLeast}
-use Rattle.commands.specs.declared.command.Command.{Command}
-use Rattle.commands.specs.declared.command.Command.TheVariants.{Item, Bin, Receive, Move, Count, Adjust, Order, Cancel, Pick, Unpick, Ship, Hold, Release, Recall, OpenDay, Least, Urgent}
-use Rattle.machine.specs.Acts.{Act}
-use Rattle.machine.specs.Standing.{items, has_item, bins, has_bin, is_store_bin, lot_known, has_lot, is_held, is_recalled, is_expired, today, least_days, has_order, has_line}
-use Rattle.machine.specs.Planning.{in_bin, staged_of_lot, staged_for_order, units_in_house, is_open, reserved, open_units}
-use Rattle.machine.specs.Verdict.{Judgement, first_refusal, verdict, all_judged, expires_otherwise, is_past, is_below, names_item_twice, taken_off, put_on}
+use Rattle.machine.proofs.Words.{◌≡◌, ℕ, ◌+◌, ◌≤◌, true, false, not, List, [], ◌∷◌, refl, ◌==◌, nat_le, nat_lt, if◌then◌else◌, Some, None, length, ℤ, int_le, list_any, same_text, LotId, ITEMS_MAX, BINS_MAX, UNITS_MAX, OPEN_MAX, ACTS_MAX, NewItem, NewBin, Receipt, Movement, Recount, Adjustment, NewOrder, Picking, NewLeast, Command, Item, Bin, Receive, Move, Count, Adjust, Order, Cancel, Pick, Unpick, Ship, Hold, Release, Recall, OpenDay, Least, Urgent, Act, items, has_item, bins, has_bin, is_store_bin, lot_known, has_lot, is_held, is_recalled, is_expired, today, least_days, has_order, has_line, in_bin, staged_of_lot, staged_for_order, units_in_house, is_open, reserved, open_units, Judgement, first_refusal, verdict, all_judged, expires_otherwise, is_past, is_below, names_item_twice, taken_off, put_on}
 use Rattle.machine.proofs.Tests.{not_false, or_none, at_most, is_zero}
 
 -- no condition of the list holds

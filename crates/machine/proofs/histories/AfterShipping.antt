@@ -1,21 +1,5 @@
 -- After an order is shipped: its stages are empty, what was staged is in the shipment, and no plan has changed.
-use Rattle.std.proofs.Common.{◌≡◌, ℕ, ◌+◌, ◌-◌, Bool, true, false, ◌&&◌, List, [], ◌∷◌, ◌++◌, refl, ap, sym, ◌∙◌, arith}
-use Rattle.std.specs.Prelude.{◌==◌, if◌then◌else◌, filter, map, flat_map, reverse, ℤ}
-use Rattle.std.specs.List.{list_any}
-use Rattle.values.specs.Values.{same_text}
-use Rattle.values.specs.declared.lot.LotId.{LotId}
-use Rattle.commands.specs.declared.key.Key.{Key}
-use Rattle.commands.specs.declared.command.OrderLine.{OrderLine}
-use Rattle.commands.specs.declared.command.Command.TheVariants.{Ship}
-use Rattle.plan.specs.declared.Demand.{Demand}
-use Rattle.plan.specs.Overlap.{plan_rows}
-use Rattle.machine.specs.Acts.{Act, next_number}
-use Rattle.machine.specs.Postings.{Place, Supplier, InBin, Stage, Shipped, WriteOff, Posting, balance, in_house, is_bin, is_stage, is_shipment, is_lot, of_item}
-use Rattle.machine.specs.Standing.{KnownLot, Placed, lots, orders, lot_known, order_named, is_cancelled, shipments_so_far}
-use Rattle.machine.specs.Ledger.{cleared, shipped_off, postings}
-use Rattle.machine.specs.Planning.{is_urgent, is_normal, Booking, booking_of, lines_of_item, in_bin, in_store, staged_of_lot, item_postings, shipped_of, staged, shipped, need, demand_of, demands, supplies, shippable_lots, plan, reserved, reserved_of}
-use Rattle.machine.specs.Cards.{lot_units_in_house}
-use Rattle.machine.specs.Once.{IsHistory}
+use Rattle.machine.proofs.Words.{◌≡◌, ℕ, ◌+◌, ◌-◌, Bool, true, false, ◌&&◌, List, [], ◌∷◌, ◌++◌, refl, ap, sym, ◌∙◌, arith, ◌==◌, if◌then◌else◌, filter, map, flat_map, reverse, ℤ, list_any, same_text, LotId, Key, OrderLine, Ship, Demand, plan_rows, Act, next_number, Place, Supplier, InBin, Stage, Shipped, WriteOff, Posting, balance, in_house, is_bin, is_stage, is_shipment, is_lot, of_item, KnownLot, Placed, lots, orders, lot_known, order_named, is_cancelled, shipments_so_far, cleared, shipped_off, postings, is_urgent, is_normal, Booking, booking_of, lines_of_item, in_bin, in_store, staged_of_lot, item_postings, shipped_of, staged, shipped, need, demand_of, demands, supplies, shippable_lots, plan, reserved, reserved_of, lot_units_in_house, IsHistory}
 use Rattle.machine.proofs.Mapping.{map_reversed, map_appended}
 use Rattle.machine.proofs.Tests.{and_both, or_false, same_text_is, same_text_refl}
 use Rattle.machine.proofs.Apart.{any_found}

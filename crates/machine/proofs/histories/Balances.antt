@@ -1,10 +1,5 @@
 -- A posting changes each balance by its quantity, and no balance of places that it does not name.
-use Rattle.std.proofs.Common.{◌≡◌, ℕ, ◌+◌, ◌-◌, ◌≤◌, Bool, true, false, ◌&&◌, List, [], ◌∷◌, ◌++◌, refl, arith}
-use Rattle.std.specs.Prelude.{◌==◌, if◌then◌else◌, filter}
-use Rattle.std.proofs.lemmas.Bool.{eqb-true}
-use Rattle.values.specs.declared.lot.LotId.{LotId}
-use Rattle.machine.specs.Postings.{Place, Posting, balance, units_in, units_out, of_item, is_bin, is_stage, is_lot}
-use Rattle.machine.specs.Ledger.{posting}
+use Rattle.machine.proofs.Words.{◌≡◌, ℕ, ◌+◌, ◌-◌, ◌≤◌, Bool, true, false, ◌&&◌, List, [], ◌∷◌, ◌++◌, refl, arith, ◌==◌, if◌then◌else◌, filter, eqb-true, LotId, Place, Posting, balance, units_in, units_out, of_item, is_bin, is_stage, is_lot, posting}
 use Rattle.machine.proofs.histories.Cells.{Cells, into, out_of, holds, Inner, CanTake, Legal, never_overdrawn, taken_from}
 
 -- once for each end that lies in the set

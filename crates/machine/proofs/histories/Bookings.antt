@@ -1,21 +1,6 @@
 -- Bookings of some orders stand by number, and their demands are told by what each order wants.
-use Rattle.std.proofs.Common.{◌≡◌, ℕ, ◌+◌, ◌<◌, true, false, List, [], ◌∷◌, ◌++◌, refl, ap, sym, ◌∙◌, subst, arith}
-use Rattle.std.specs.Prelude.{◌==◌, ◌||◌, if◌then◌else◌, filter, map, flat_map, reverse, nat_lt}
-use Rattle.std.specs.List.{list_any}
-use Rattle.std.specs.Cmp.Lexicographic.{same_text as equal_texts}
-use Rattle.std.proofs.lemmas.List.{reverse-append}
 use borrow.Author.Tests.{lt-ltb}
-use Rattle.values.specs.Values.{same_text}
-use Rattle.commands.specs.declared.command.OrderLine.{OrderLine}
-use Rattle.commands.specs.Lists.{total}
-use Rattle.plan.specs.Lists.{total as plan_total}
-use Rattle.plan.specs.declared.Demand.{Demand}
-use Rattle.plan.proofs.Ranked.{AllAfter, IsRising, at_rank}
-use Rattle.machine.specs.Acts.{Act}
-use Rattle.machine.specs.Postings.{Posting}
-use Rattle.machine.specs.Standing.{Placed}
-use Rattle.machine.specs.Planning.{Booking, booking_of, lines_of_item, demand_of}
-use Rattle.machine.specs.Verdict.{names_item_twice}
+use Rattle.machine.proofs.Words.{◌≡◌, ℕ, ◌+◌, ◌<◌, true, false, List, [], ◌∷◌, ◌++◌, refl, ap, sym, ◌∙◌, subst, arith, ◌==◌, ◌||◌, if◌then◌else◌, filter, map, flat_map, reverse, nat_lt, list_any, equal_texts, reverse-append, same_text, OrderLine, total, plan_total, Demand, AllAfter, IsRising, at_rank, Act, Posting, Placed, Booking, booking_of, lines_of_item, demand_of, names_item_twice}
 use Rattle.machine.proofs.Tests.{or_none}
 use Rattle.machine.proofs.histories.Falling.{AllBelow, AreFalling}
 use Rattle.machine.proofs.histories.Orders.{AllSingle}

@@ -1,23 +1,5 @@
 -- On a history no more of a line is staged and shipped than is ordered, and a closed order has nothing staged or reserved.
-use Rattle.std.proofs.Common.{◌≡◌, ℕ, ◌+◌, ◌-◌, ◌≤◌, Bool, true, false, ◌&&◌, not, List, [], ◌∷◌, ◌++◌, refl, ap, sym, ◌∙◌, arith}
-use Rattle.std.specs.Prelude.{◌==◌, ◌||◌, if◌then◌else◌, find, Option, Some, None, is_some, ℤ}
-use Rattle.std.specs.List.{list_all}
-use Rattle.std.proofs.lemmas.Bool.{eqb-true}
-use Rattle.values.specs.Values.{same_text}
-use Rattle.values.specs.declared.lot.LotId.{LotId}
-use Rattle.commands.specs.declared.key.Key.{Key}
-use Rattle.commands.specs.declared.command.OrderLine.{OrderLine}
-use Rattle.commands.specs.declared.command.Command.{Command}
-use Rattle.commands.specs.declared.command.Command.TheVariants.{Item, Bin, Receive, Move, Count, Adjust, Order, Cancel, Pick, Unpick, Ship, Hold, Release, Recall, OpenDay, Least, Urgent}
-use Rattle.commands.specs.declared.rows.OrderState.TheVariants.{Open, Done, Cancelled}
-use Rattle.machine.specs.Acts.{Act, next_number}
-use Rattle.machine.specs.Postings.{Place, Supplier, InBin, Stage, Shipped, WriteOff, Posting, balance, is_stage, is_shipped_to, is_lot, any_lot, of_item}
-use Rattle.machine.specs.Standing.{Placed, orders, order_named, has_order, lines_of, lines_placed, is_cancelled}
-use Rattle.machine.specs.Ledger.{posting, posted, postings}
-use Rattle.machine.specs.Planning.{item_postings, staged, shipped, shipped_of, staged_of_lot, staged_for_order, is_open, is_open_state, is_shipped_in_full, reserved}
-use Rattle.machine.specs.Verdict.{verdict, names_item_twice}
-use Rattle.machine.specs.Once.{IsHistory}
-use Rattle.machine.specs.Laws.{ClosedOrdersAreEmpty}
+use Rattle.machine.proofs.Words.{◌≡◌, ℕ, ◌+◌, ◌-◌, ◌≤◌, Bool, true, false, ◌&&◌, not, List, [], ◌∷◌, ◌++◌, refl, ap, sym, ◌∙◌, arith, ◌==◌, ◌||◌, if◌then◌else◌, find, Option, Some, None, is_some, ℤ, list_all, eqb-true, same_text, LotId, Key, OrderLine, Command, Item, Bin, Receive, Move, Count, Adjust, Order, Cancel, Pick, Unpick, Ship, Hold, Release, Recall, OpenDay, Least, Urgent, Open, Done, Cancelled, Act, next_number, Place, Supplier, InBin, Stage, Shipped, WriteOff, Posting, balance, is_stage, is_shipped_to, is_lot, any_lot, of_item, Placed, orders, order_named, has_order, lines_of, lines_placed, is_cancelled, posting, posted, postings, item_postings, staged, shipped, shipped_of, staged_of_lot, staged_for_order, is_open, is_open_state, is_shipped_in_full, reserved, verdict, names_item_twice, IsHistory, ClosedOrdersAreEmpty}
 use Rattle.machine.proofs.Tests.{same_text_is, is_lot_item, and_both}
 use Rattle.machine.proofs.histories.Accepted.{order_accepted, urgent_accepted, cancel_accepted, pick_accepted}
 use Rattle.machine.proofs.histories.Cells.{Cells, holds, Inner, Legal, IsPart, without, stage_cell, inner_stage, holds_split}

@@ -1,19 +1,7 @@
 -- What came in of a lot is in bins, on stages or in shipments, or was written off.
-use Rattle.std.proofs.Common.{◌≡◌, ℕ, suc, ◌+◌, ◌-◌, Bool, true, false, ◌&&◌, List, [], ◌∷◌, ◌++◌, refl, ap, arith}
 use Prim.Native.Nat.{zero}
-use Rattle.std.specs.Prelude.{◌==◌, if◌then◌else◌, flat_map, ℤ, pos, negsuc, neg_ℤ, unsigned_abs}
-use Rattle.values.specs.declared.lot.LotId.{LotId}
-use Rattle.commands.specs.declared.command.Command.{Command}
-use Rattle.commands.specs.declared.command.Command.TheVariants.{Item, Bin, Receive, Move, Count, Adjust, Order, Cancel, Pick, Unpick, Ship, Hold, Release, Recall, OpenDay, Least, Urgent}
-use Rattle.commands.specs.declared.rows.CardKind.{CardKind}
-use Rattle.commands.specs.declared.rows.CardKind.TheVariants.{Receipt, WriteOn, WriteOff as WrittenOff}
-use Rattle.commands.specs.declared.rows.CardRow.{CardRow}
-use Rattle.machine.specs.Acts.{Act, next_number}
-use Rattle.machine.specs.Postings.{Place, Supplier, InBin, Stage, Shipped, WriteOff, Posting, balance, is_bin, is_stage, is_lot}
-use Rattle.machine.specs.Standing.{KnownLot, Placed, RETURNS, lots, orders, shipments_so_far}
-use Rattle.machine.specs.Ledger.{posting, written, cleared, shipped_off, lot_returned, returned, made_unshippable, posted, postings, postings_of}
-use Rattle.machine.specs.Cards.{cards, card_lines}
-use Rattle.machine.specs.Laws.{card_total, Conserved}
+use Rattle.machine.proofs.Words.{◌≡◌, ℕ, suc, ◌+◌, ◌-◌, Bool, true, false, ◌&&◌, List, [], ◌∷◌, ◌++◌, refl, ap, arith, ◌==◌, if◌then◌else◌, flat_map, ℤ, pos, negsuc, neg_ℤ, unsigned_abs, LotId, Command, Item, Bin, Receive, Move, Count, Adjust, Order, Cancel, Pick, Unpick, Ship, Hold, Release, Recall, OpenDay, Least, Urgent, CardKind, WriteOn, WrittenOff, CardRow, Act, next_number, Place, Supplier, InBin, Stage, Shipped, WriteOff, Posting, balance, is_bin, is_stage, is_lot, KnownLot, Placed, RETURNS, lots, orders, shipments_so_far, posting, written, cleared, shipped_off, lot_returned, returned, made_unshippable, posted, postings, postings_of, cards, card_lines, card_total, Conserved}
+use Rattle.commands.specs.declared.rows.CardKind.TheVariants.{Receipt}
 use Rattle.machine.proofs.histories.Cells.{into, out_of, into-append, out_of-append, never_overdrawn}
 use Rattle.machine.proofs.histories.LegalHistories.{legal_history}
 use Rattle.machine.proofs.histories.KnownSums.{of_lot, any_inner, all_held}

@@ -1,18 +1,5 @@
 -- The reservations on a lot add up to at most its units in STORE bins.
-use Rattle.std.proofs.Common.{◌≡◌, ℕ, ◌+◌, ◌≤◌, ◌<◌, Bool, true, false, ◌&&◌, List, [], ◌∷◌, refl, ap, sym, ◌∙◌, arith}
-use Rattle.std.specs.Prelude.{◌==◌, if◌then◌else◌, find, filter, map, Option, Some, None, ℤ}
-use Rattle.std.proofs.lemmas.Bool.{eqb-true}
-use Rattle.values.specs.declared.lot.LotId.{LotId}
-use Rattle.commands.specs.Lists.{total, placed, in_order}
-use Rattle.plan.specs.Overlap.{reserved_in, reserved_on}
-use Rattle.plan.specs.declared.Row.{Row}
-use Rattle.machine.specs.Acts.{Act}
-use Rattle.machine.specs.Postings.{balance, is_lot, of_item}
-use Rattle.machine.specs.Standing.{KnownLot, Placed, lots, lots_of, lot_known, orders, is_shippable}
-use Rattle.machine.specs.Ledger.{postings}
-use Rattle.machine.specs.Planning.{item_postings, in_store, store_units, supply_of, supplies, shippable_lots, goes_before, demands, plan, reserved, reserved_of}
-use Rattle.machine.specs.Once.{IsHistory}
-use Rattle.machine.specs.Laws.{Covered}
+use Rattle.machine.proofs.Words.{◌≡◌, ℕ, ◌+◌, ◌≤◌, ◌<◌, Bool, true, false, ◌&&◌, List, [], ◌∷◌, refl, ap, sym, ◌∙◌, arith, ◌==◌, if◌then◌else◌, find, filter, map, Option, Some, None, ℤ, eqb-true, LotId, total, placed, in_order, reserved_in, reserved_on, Row, Act, balance, is_lot, of_item, KnownLot, Placed, lots, lots_of, lot_known, orders, is_shippable, postings, item_postings, in_store, store_units, supply_of, supplies, shippable_lots, goes_before, demands, plan, reserved, reserved_of, IsHistory, Covered}
 use Rattle.machine.proofs.Numbers.{equal_turned, unequal_below, add_totals}
 use Rattle.machine.proofs.Tests.{is_lot_item}
 use Rattle.machine.proofs.histories.Falling.{AllBelow, AreFalling, found_below}

@@ -1,6 +1,5 @@
 -- Lists along which numbers fall, the newest first: what has one number is one.
-use Rattle.std.proofs.Common.{◌≡◌, ℕ, ◌≤◌, ◌<◌, Bool, true, false, List, [], ◌∷◌, ap, arith}
-use Rattle.std.specs.Prelude.{if◌then◌else◌, Some, find}
+use Rattle.machine.proofs.Words.{◌≡◌, ℕ, ◌≤◌, ◌<◌, Bool, true, false, List, [], ◌∷◌, ap, arith, if◌then◌else◌, Some, find}
 
 module _ {X : Type 0} (number : X → ℕ) where
   abbrev pub AllBelow : ℕ → List X → Type 0

@@ -1,8 +1,5 @@
 -- The postings of an item alone tell the same of the item's cells.
-use Rattle.std.proofs.Common.{◌≡◌, ℕ, ◌+◌, ◌-◌, Bool, true, false, ◌&&◌, List, [], ◌∷◌, refl, ap, ◌∙◌, arith}
-use Rattle.std.specs.Prelude.{if◌then◌else◌, filter}
-use Rattle.values.specs.declared.lot.LotId.{LotId}
-use Rattle.machine.specs.Postings.{Place, Posting, balance, of_item}
+use Rattle.machine.proofs.Words.{◌≡◌, ℕ, ◌+◌, ◌-◌, Bool, true, false, ◌&&◌, List, [], ◌∷◌, refl, ap, ◌∙◌, arith, if◌then◌else◌, filter, LotId, Place, Posting, balance, of_item}
 use Rattle.machine.proofs.Tests.{and_later_false}
 use Rattle.machine.proofs.histories.Cells.{Cells, into, out_of}
 

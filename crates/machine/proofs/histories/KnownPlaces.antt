@@ -1,22 +1,5 @@
 -- On a history units stand only in known bins, on stages of known order lines and in known shipments, and only of known lots.
-use Rattle.std.proofs.Common.{◌≡◌, ℕ, suc, ◌+◌, ◌-◌, Bool, true, false, ◌&&◌, List, [], ◌∷◌, ◌++◌, refl, ap, sym, ◌∙◌, arith, eq-eqb}
-use Rattle.std.specs.Prelude.{◌==◌, if◌then◌else◌, find, Option, Some, None, is_some, ℤ, pos, negsuc}
-use Rattle.std.specs.List.{list_any}
-use Rattle.std.proofs.lemmas.Bool.{eqb-true}
-use Rattle.values.specs.Values.{same_text}
-use Rattle.values.specs.declared.lot.LotId.{LotId}
-use Rattle.commands.specs.declared.key.Key.{Key}
-use Rattle.commands.specs.declared.command.NewBin.{NewBin}
-use Rattle.commands.specs.declared.command.Receipt.{Receipt}
-use Rattle.commands.specs.declared.command.Command.{Command}
-use Rattle.commands.specs.declared.command.Command.TheVariants.{Item, Bin, Receive, Move, Count, Adjust, Order, Cancel, Pick, Unpick, Ship, Hold, Release, Recall, OpenDay, Least, Urgent}
-use Rattle.commands.specs.declared.rows.ShipmentRow.{ShipmentRow}
-use Rattle.machine.specs.Acts.{Act, next_number, gathered}
-use Rattle.machine.specs.Postings.{Place, Supplier, InBin, Stage, Shipped, WriteOff, Posting, balance, is_bin, is_stage, is_lot, is_shipment}
-use Rattle.machine.specs.Standing.{KnownLot, Placed, RETURNS, bin_in, bins, has_bin, returns_bin, lots, lots_after, lot_among, has_lot, with_receipt, orders, order_named, has_order, has_line, lines_placed, shipments, shipments_so_far, today}
-use Rattle.machine.specs.Ledger.{posting, correction, written, cleared, shipped_off, lot_returned, returned, made_unshippable, posted, postings}
-use Rattle.machine.specs.Verdict.{verdict}
-use Rattle.machine.specs.Once.{IsHistory}
+use Rattle.machine.proofs.Words.{◌≡◌, ℕ, suc, ◌+◌, ◌-◌, Bool, true, false, ◌&&◌, List, [], ◌∷◌, ◌++◌, refl, ap, sym, ◌∙◌, arith, eq-eqb, ◌==◌, if◌then◌else◌, find, Option, Some, None, is_some, ℤ, pos, negsuc, list_any, eqb-true, same_text, LotId, Key, NewBin, Receipt, Command, Item, Bin, Receive, Move, Count, Adjust, Order, Cancel, Pick, Unpick, Ship, Hold, Release, Recall, OpenDay, Least, Urgent, ShipmentRow, Act, next_number, gathered, Place, Supplier, InBin, Stage, Shipped, WriteOff, Posting, balance, is_bin, is_stage, is_lot, is_shipment, KnownLot, Placed, RETURNS, bin_in, bins, has_bin, returns_bin, lots, lots_after, lot_among, has_lot, with_receipt, orders, order_named, has_order, has_line, lines_placed, shipments, shipments_so_far, today, posting, correction, written, cleared, shipped_off, lot_returned, returned, made_unshippable, posted, postings, verdict, IsHistory}
 use Rattle.machine.proofs.Tests.{same_text_is, is_lot_refl, is_lot_is, and_both, and_later_false}
 use Rattle.machine.proofs.histories.Accepted.{receive_accepted, move_accepted, count_accepted, adjust_accepted, pick_accepted, unpick_accepted, order_accepted, urgent_accepted}
 use Rattle.machine.proofs.histories.Cells.{Cells, into, holds}

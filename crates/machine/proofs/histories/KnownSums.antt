@@ -1,19 +1,5 @@
 -- On a history the balances of the known bins, stages and shipments add up to those of all bins, stages and shipments.
-use Rattle.std.proofs.Common.{◌≡◌, ℕ, ◌+◌, Bool, true, false, ◌&&◌, not, List, [], ◌∷◌, refl, ap, sym, ◌∙◌, arith}
-use Rattle.std.specs.Prelude.{◌==◌, ◌||◌, ℤ}
-use Rattle.std.specs.List.{list_any}
-use Rattle.std.proofs.lemmas.Bool.{eqb-true}
-use Rattle.values.specs.Values.{same_text}
-use Rattle.values.specs.declared.lot.LotId.{LotId}
-use Rattle.commands.specs.Lists.{total}
-use Rattle.commands.specs.declared.command.NewBin.{NewBin}
-use Rattle.commands.specs.declared.rows.ShipmentRow.{ShipmentRow}
-use Rattle.machine.specs.Acts.{Act}
-use Rattle.machine.specs.Postings.{Place, Supplier, InBin, Stage, Shipped, WriteOff, is_bin, is_stage, is_shipment, is_lot}
-use Rattle.machine.specs.Standing.{has_lot, bins, Placed, orders, shipments}
-use Rattle.machine.specs.Ledger.{postings}
-use Rattle.machine.specs.Once.{IsHistory}
-use Rattle.machine.specs.Laws.{in_bins, on_stages, in_shipments}
+use Rattle.machine.proofs.Words.{◌≡◌, ℕ, ◌+◌, Bool, true, false, ◌&&◌, not, List, [], ◌∷◌, refl, ap, sym, ◌∙◌, arith, ◌==◌, ◌||◌, ℤ, list_any, eqb-true, same_text, LotId, total, NewBin, ShipmentRow, Act, Place, Supplier, InBin, Stage, Shipped, WriteOff, is_bin, is_stage, is_shipment, is_lot, has_lot, bins, Placed, orders, shipments, postings, IsHistory, in_bins, on_stages, in_shipments}
 use Rattle.machine.proofs.Numbers.{equal_turned}
 use Rattle.machine.proofs.Tests.{and_both, or_none, not_true, same_text_is, same_text_turned}
 use Rattle.machine.proofs.histories.Cells.{Cells, holds, Inner, IsPart, without, holds_split}

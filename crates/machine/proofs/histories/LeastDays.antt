@@ -1,15 +1,5 @@
 -- The days that items ask for: none before the item is known, none without a Least, and never too many.
-use Rattle.std.proofs.Common.{◌≡◌, ℕ, Bool, true, false, List, [], ◌∷◌, refl, ap, sym, ◌∙◌}
-use Rattle.std.specs.Prelude.{find, if◌then◌else◌, Some, is_some, ℤ}
-use Rattle.values.specs.Values.{same_text, is_gtin, is_least_days}
-use Rattle.commands.specs.Sound.{is_sound}
-use Rattle.commands.specs.declared.key.Key.{Key}
-use Rattle.commands.specs.declared.command.NewItem.{NewItem}
-use Rattle.commands.specs.declared.command.Command.{Command}
-use Rattle.commands.specs.declared.command.Command.TheVariants.{Item, Bin, Receive, Move, Count, Adjust, Order, Cancel, Pick, Unpick, Ship, Hold, Release, Recall, OpenDay, Least, Urgent}
-use Rattle.machine.specs.Acts.{Act, gathered}
-use Rattle.machine.specs.Standing.{item_named, has_item, least_in, days_asked, least_days}
-use Rattle.machine.specs.Once.{IsHistory}
+use Rattle.machine.proofs.Words.{◌≡◌, ℕ, Bool, true, false, List, [], ◌∷◌, refl, ap, sym, ◌∙◌, find, if◌then◌else◌, Some, is_some, ℤ, same_text, is_gtin, is_least_days, is_sound, Key, NewItem, Command, Item, Bin, Receive, Move, Count, Adjust, Order, Cancel, Pick, Unpick, Ship, Hold, Release, Recall, OpenDay, Least, Urgent, Act, gathered, item_named, has_item, least_in, days_asked, least_days, IsHistory}
 use Rattle.machine.proofs.Tests.{same_text_is, and_both}
 use Rattle.machine.proofs.histories.Accepted.{least_accepted}
 

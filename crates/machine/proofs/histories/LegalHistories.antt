@@ -1,18 +1,5 @@
 -- The postings of a history take only what is there.
-use Rattle.std.proofs.Common.{◌≡◌, ℕ, suc, ◌+◌, ◌-◌, ◌≤◌, true, false, ◌&&◌, List, [], ◌∷◌, ◌++◌, refl, ap, sym, subst, ◌∙◌, arith, append_assoc}
-use Rattle.std.specs.Prelude.{◌==◌, if◌then◌else◌, ℤ, pos, negsuc, None}
-use Rattle.std.specs.List.{list_any}
-use Rattle.values.specs.Values.{same_text}
-use Rattle.values.specs.declared.lot.LotId.{LotId}
-use Rattle.commands.specs.declared.command.Command.{Command}
-use Rattle.commands.specs.declared.command.Command.TheVariants.{Item, Bin, Receive, Move, Count, Adjust, Order, Cancel, Pick, Unpick, Ship, Hold, Release, Recall, OpenDay, Least, Urgent}
-use Rattle.machine.specs.Acts.{Act, next_number}
-use Rattle.machine.specs.Postings.{Place, Supplier, InBin, Stage, Shipped, WriteOff, Posting, balance, is_bin, is_lot, is_stage}
-use Rattle.machine.specs.Standing.{KnownLot, Placed, lots, orders, shipments_so_far, RETURNS}
-use Rattle.machine.specs.Ledger.{posting, correction, written, cleared, shipped_off, lot_returned, returned, made_unshippable, posted, postings}
-use Rattle.machine.specs.Verdict.{verdict, taken_off}
-use Rattle.machine.specs.Once.{IsHistory}
-use Rattle.machine.specs.Laws.{NeverOverdrawn}
+use Rattle.machine.proofs.Words.{◌≡◌, ℕ, suc, ◌+◌, ◌-◌, ◌≤◌, true, false, ◌&&◌, List, [], ◌∷◌, ◌++◌, refl, ap, sym, subst, ◌∙◌, arith, append_assoc, ◌==◌, if◌then◌else◌, ℤ, pos, negsuc, None, list_any, same_text, LotId, Command, Item, Bin, Receive, Move, Count, Adjust, Order, Cancel, Pick, Unpick, Ship, Hold, Release, Recall, OpenDay, Least, Urgent, Act, next_number, Place, Supplier, InBin, Stage, Shipped, WriteOff, Posting, balance, is_bin, is_lot, is_stage, KnownLot, Placed, lots, orders, shipments_so_far, RETURNS, posting, correction, written, cleared, shipped_off, lot_returned, returned, made_unshippable, posted, postings, verdict, taken_off, IsHistory, NeverOverdrawn}
 use Rattle.machine.proofs.Tests.{or_none, and_later_false, and_first_false}
 use Rattle.machine.proofs.histories.Accepted.{move_accepted, adjust_accepted, pick_accepted, unpick_accepted}
 use Rattle.machine.proofs.histories.Cells.{Cells, CanTake, Legal, never_overdrawn, stage_cell, into, out_of, into-append, out_of-append, holds}

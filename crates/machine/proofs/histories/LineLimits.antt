@@ -1,16 +1,5 @@
 -- No line asks for more units than a quantity may have, and there are no more shipments than acts.
-use Rattle.std.proofs.Common.{◌≡◌, ℕ, ◌+◌, ◌≤◌, true, false, ◌&&◌, List, [], ◌∷◌, arith, lit≤}
-use Rattle.std.specs.Prelude.{if◌then◌else◌, find, length, Some, ℤ}
-use Rattle.std.specs.List.{list_all}
-use Rattle.values.specs.Values.{QTY_MAX, same_text, is_qty, is_gtin, is_name, is_title}
-use Rattle.commands.specs.Limits.{has_order_lines}
-use Rattle.commands.specs.Sound.{is_sound, is_order_line, are_lines}
-use Rattle.commands.specs.declared.command.OrderLine.{OrderLine}
-use Rattle.commands.specs.declared.command.Command.{Command}
-use Rattle.commands.specs.declared.command.Command.TheVariants.{Urgent, Order, Ship}
-use Rattle.machine.specs.Acts.{Act, next_number}
-use Rattle.machine.specs.Standing.{order_named, lines_placed, shipments, shipments_after, shipments_so_far}
-use Rattle.machine.specs.Once.{IsHistory}
+use Rattle.machine.proofs.Words.{◌≡◌, ℕ, ◌+◌, ◌≤◌, true, false, ◌&&◌, List, [], ◌∷◌, arith, lit≤, if◌then◌else◌, find, length, Some, ℤ, list_all, QTY_MAX, same_text, is_qty, is_gtin, is_name, is_title, has_order_lines, is_sound, is_order_line, are_lines, OrderLine, Command, Urgent, Order, Ship, Act, next_number, order_named, lines_placed, shipments, shipments_after, shipments_so_far, IsHistory}
 use Rattle.machine.proofs.Tests.{and_both}
 use Rattle.machine.proofs.histories.Quantities.{at_most_limit}
 use Rattle.machine.proofs.histories.Needs.{line_qty}

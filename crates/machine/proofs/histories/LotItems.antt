@@ -1,19 +1,5 @@
 -- On a history the item of each known lot is known, and there are no more items than the limit.
-use Rattle.std.proofs.Common.{◌≡◌, ℕ, ◌≤◌, lit≤, Bool, true, false, List, [], ◌∷◌, refl, ap, ◌∙◌, arith}
-use Rattle.std.specs.Prelude.{if◌then◌else◌, Option, Some, None, find, filter, is_some, length, ℤ}
-use Rattle.std.specs.List.{list_any, cons_option}
-use Rattle.std.proofs.lemmas.Bool.Decides.{nat_tests}
-use Rattle.values.specs.Values.{same_text}
-use Rattle.commands.specs.declared.limits.TheConstants.{ITEMS_MAX}
-use Rattle.commands.specs.declared.command.NewItem.{NewItem}
-use Rattle.commands.specs.declared.command.Receipt.{Receipt}
-use Rattle.commands.specs.declared.command.Command.{Command}
-use Rattle.commands.specs.declared.command.Command.TheVariants.{Item, Receive}
-use Rattle.machine.specs.Acts.{Act, next_number}
-use Rattle.machine.specs.Postings.{of_item}
-use Rattle.machine.specs.Standing.{KnownLot, items, item_in, has_item, lots, lot_among, lots_after, with_receipt}
-use Rattle.machine.specs.Verdict.{verdict}
-use Rattle.machine.specs.Once.{IsHistory}
+use Rattle.machine.proofs.Words.{◌≡◌, ℕ, ◌≤◌, lit≤, Bool, true, false, List, [], ◌∷◌, refl, ap, ◌∙◌, arith, if◌then◌else◌, Option, Some, None, find, filter, is_some, length, ℤ, list_any, cons_option, nat_tests, same_text, ITEMS_MAX, NewItem, Receipt, Command, Item, Receive, Act, next_number, of_item, KnownLot, items, item_in, has_item, lots, lot_among, lots_after, with_receipt, verdict, IsHistory}
 use Rattle.machine.proofs.Tests.{same_text_is}
 use Rattle.machine.proofs.histories.Accepted.{item_accepted, receive_accepted}
 

@@ -1,16 +1,5 @@
 -- Lots: none is known twice, and lots and their first receipts determine one another; a lot that is not known is not held.
-use Rattle.std.proofs.Common.{◌≡◌, ℕ, ◌+◌, ◌≤◌, Bool, true, false, List, [], ◌∷◌, refl, ap, sym, ◌∙◌, arith}
-use Rattle.std.specs.Prelude.{if◌then◌else◌, ℤ, Some, None, find, is_some}
-use Rattle.std.specs.List.{cons_option}
-use Rattle.values.specs.declared.lot.LotId.{LotId}
-use Rattle.commands.specs.declared.command.Receipt.{Receipt}
-use Rattle.commands.specs.declared.command.Command.{Command}
-use Rattle.commands.specs.declared.command.Command.TheVariants.{Receive, Hold, Release}
-use Rattle.machine.specs.Acts.{Act, gathered, next_number}
-use Rattle.machine.specs.Postings.{is_lot}
-use Rattle.machine.specs.Standing.{KnownLot, lots, lots_after, with_receipt, lot_among, lot_known, has_lot, hold_in, says_held, is_held}
-use Rattle.machine.specs.Verdict.{verdict}
-use Rattle.machine.specs.Once.{IsHistory}
+use Rattle.machine.proofs.Words.{◌≡◌, ℕ, ◌+◌, ◌≤◌, Bool, true, false, List, [], ◌∷◌, refl, ap, sym, ◌∙◌, arith, if◌then◌else◌, ℤ, Some, None, find, is_some, cons_option, LotId, Receipt, Command, Receive, Hold, Release, Act, gathered, next_number, is_lot, KnownLot, lots, lots_after, with_receipt, lot_among, lot_known, has_lot, hold_in, says_held, is_held, verdict, IsHistory}
 use Rattle.machine.proofs.Tests.{is_lot_is, is_lot_refl, is_lot_turned}
 use Rattle.machine.proofs.Apart.{AreApart, AllFound, all_found, any_found}
 use Rattle.machine.proofs.histories.Falling.{AllBelow, AreFalling, below_more, found_one}

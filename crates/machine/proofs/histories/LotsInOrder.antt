@@ -1,11 +1,6 @@
 -- A list put in order and then cut down to some of its elements is those elements put in order; so it is with lots.
-use Rattle.std.proofs.Common.{◌≡◌, ℕ, Bool, true, false, ◌&&◌, not, List, [], ◌∷◌, refl, ap, sym, ◌∙◌, arith}
-use Rattle.std.specs.Prelude.{◌||◌, if◌then◌else◌, filter, ℤ, int_lt, nat_lt}
-use Rattle.std.proofs.lemmas.Int.{ints}
 use borrow.Author.Tests.{ltb-true, ltb-false, le-ltb}
-use Rattle.commands.specs.Lists.{placed, in_order}
-use Rattle.machine.specs.Standing.{KnownLot}
-use Rattle.machine.specs.Planning.{goes_before}
+use Rattle.machine.proofs.Words.{◌≡◌, ℕ, Bool, true, false, ◌&&◌, not, List, [], ◌∷◌, refl, ap, sym, ◌∙◌, arith, ◌||◌, if◌then◌else◌, filter, ℤ, int_lt, nat_lt, ints, placed, in_order, KnownLot, goes_before}
 
 module _ {X : Type 0} (before : X → X → Bool) (turned : (x y : X) → before x y ≡ true → before y x ≡ false) (further : (x y z : X) → before z y ≡ false → before y x ≡ false → before z x ≡ false) where
   abbrev NoneBefore : X → List X → Type 0

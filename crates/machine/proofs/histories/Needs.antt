@@ -1,17 +1,5 @@
 -- What is reserved for an order of a lot is within what its line needs.
-use Rattle.std.proofs.Common.{◌≡◌, ℕ, ◌+◌, ◌-◌, ◌≤◌, ◌<◌, Bool, true, false, List, [], ◌∷◌, refl, ap, sym, ◌∙◌, arith}
-use Rattle.std.specs.Prelude.{◌==◌, if◌then◌else◌, find, filter, map, Option, Some, None, ℤ}
-use Rattle.std.specs.List.{list_any}
-use Rattle.values.specs.Values.{same_text}
-use Rattle.values.specs.declared.lot.LotId.{LotId}
-use Rattle.commands.specs.Lists.{total}
-use Rattle.commands.specs.declared.command.OrderLine.{OrderLine}
-use Rattle.plan.specs.declared.Demand.{Demand}
-use Rattle.machine.specs.Acts.{Act}
-use Rattle.machine.specs.Postings.{Posting}
-use Rattle.machine.specs.Standing.{KnownLot, Placed, orders, order_named, lot_known}
-use Rattle.machine.specs.Planning.{Booking, booking_of, lines_of_item, need, demands, supplies, item_postings, plan, reserved, reserved_of}
-use Rattle.machine.specs.Verdict.{names_item_twice}
+use Rattle.machine.proofs.Words.{◌≡◌, ℕ, ◌+◌, ◌-◌, ◌≤◌, ◌<◌, Bool, true, false, List, [], ◌∷◌, refl, ap, sym, ◌∙◌, arith, ◌==◌, if◌then◌else◌, find, filter, map, Option, Some, None, ℤ, list_any, same_text, LotId, total, OrderLine, Demand, Act, Posting, KnownLot, Placed, orders, order_named, lot_known, Booking, booking_of, lines_of_item, need, demands, supplies, item_postings, plan, reserved, reserved_of, names_item_twice}
 use Rattle.machine.proofs.Numbers.{equal_turned, unequal_below}
 use Rattle.machine.proofs.Tests.{same_text_is, or_none}
 use Rattle.machine.proofs.histories.Falling.{AllBelow, AreFalling, found_below}

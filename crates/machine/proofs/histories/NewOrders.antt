@@ -1,17 +1,5 @@
 -- An order that is new is not cancelled and has nothing staged or shipped.
-use Rattle.std.proofs.Common.{◌≡◌, ℕ, true, false, List, [], ◌∷◌, refl, ap, sym, ◌∙◌, arith}
-use Rattle.std.specs.Prelude.{◌||◌, if◌then◌else◌, ℤ, Option, Some, None, find, is_some}
-use Rattle.values.specs.Values.{same_text}
-use Rattle.commands.specs.declared.key.Key.{Key}
-use Rattle.commands.specs.declared.command.Command.{Command}
-use Rattle.commands.specs.declared.command.Command.TheVariants.{Urgent, Order, Cancel}
-use Rattle.machine.specs.Acts.{Act, next_number}
-use Rattle.machine.specs.Postings.{is_stage, of_item}
-use Rattle.machine.specs.Standing.{Placed, order_named, has_order, lines_placed, is_cancelled}
-use Rattle.machine.specs.Ledger.{postings}
-use Rattle.machine.specs.Planning.{item_postings, staged, shipped_of}
-use Rattle.machine.specs.Verdict.{verdict}
-use Rattle.machine.specs.Once.{IsHistory}
+use Rattle.machine.proofs.Words.{◌≡◌, ℕ, true, false, List, [], ◌∷◌, refl, ap, sym, ◌∙◌, arith, ◌||◌, if◌then◌else◌, ℤ, Option, Some, None, find, is_some, same_text, Key, Command, Urgent, Order, Cancel, Act, next_number, is_stage, of_item, Placed, order_named, has_order, lines_placed, is_cancelled, postings, item_postings, staged, shipped_of, verdict, IsHistory}
 use Rattle.machine.proofs.Tests.{same_text_is}
 use Rattle.machine.proofs.histories.Accepted.{cancel_accepted}
 use Rattle.machine.proofs.histories.Needs.{line_qty}

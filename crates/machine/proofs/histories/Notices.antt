@@ -1,28 +1,5 @@
 -- A recall notice names exactly the bins and the shipments with units of the lot.
-use Rattle.std.proofs.Common.{◌≡◌, ℕ, suc, ◌+◌, ◌≤◌, ◌<◌, Bool, true, false, ◌&&◌, not, List, [], ◌∷◌, ◌++◌, length, refl, ap, sym, ◌∙◌, subst, arith, eq-eqb}
-use Rattle.std.specs.Prelude.{◌==◌, ◌||◌, if◌then◌else◌, filter, map, reverse, None, ℤ}
-use Rattle.std.specs.List.{list_any, list_all}
-use Rattle.std.proofs.lemmas.Bool.{eqb-true}
-use Rattle.std.proofs.lemmas.List.{reverse-append}
-use Rattle.values.specs.Values.{same_text}
-use Rattle.values.specs.declared.lot.LotId.{LotId}
-use Rattle.commands.specs.Lists.{placed, in_order}
-use Rattle.commands.specs.declared.key.Key.{Key}
-use Rattle.commands.specs.declared.command.NewBin.{NewBin}
-use Rattle.commands.specs.declared.command.Command.{Command}
-use Rattle.commands.specs.declared.command.Command.TheVariants.{Bin, Ship}
-use Rattle.commands.specs.declared.views.BinUnits.{BinUnits}
-use Rattle.commands.specs.declared.views.ShippedUnits.{ShippedUnits}
-use Rattle.commands.specs.declared.rows.ShipmentRow.{ShipmentRow}
-use Rattle.machine.specs.Acts.{Act}
-use Rattle.machine.specs.Postings.{balance, is_lot, is_shipment}
-use Rattle.machine.specs.Standing.{bins, shipments, shipments_after}
-use Rattle.machine.specs.Ledger.{postings}
-use Rattle.machine.specs.Planning.{in_bin}
-use Rattle.machine.specs.Views.{text_before, has_bin_units, has_shipped_units, shipped_units}
-use Rattle.machine.specs.Verdict.{verdict}
-use Rattle.machine.specs.Once.{IsHistory}
-use Rattle.machine.specs.Laws.{IsListing, Traced}
+use Rattle.machine.proofs.Words.{◌≡◌, ℕ, suc, ◌+◌, ◌≤◌, ◌<◌, Bool, true, false, ◌&&◌, not, List, [], ◌∷◌, ◌++◌, length, refl, ap, sym, ◌∙◌, subst, arith, eq-eqb, ◌==◌, ◌||◌, if◌then◌else◌, filter, map, reverse, None, ℤ, list_any, list_all, eqb-true, reverse-append, same_text, LotId, placed, in_order, Key, NewBin, Command, Bin, Ship, BinUnits, ShippedUnits, ShipmentRow, Act, balance, is_lot, is_shipment, bins, shipments, shipments_after, postings, in_bin, text_before, has_bin_units, has_shipped_units, shipped_units, verdict, IsHistory, IsListing, Traced}
 use Rattle.machine.proofs.Numbers.{equal_turned}
 use Rattle.machine.proofs.Tests.{same_tests, same_text_is, same_text_refl, same_text_turned, and_both, or_none, not_true}
 use Rattle.machine.proofs.histories.Accepted.{bin_accepted}

@@ -1,18 +1,5 @@
 -- Books of schema 1 ask for no days, and neither they nor those of schema 2 have an urgent order.
-use Rattle.std.proofs.Common.{◌≡◌, ℕ, true, false, ◌&&◌, List, [], ◌∷◌, refl, ap, sym}
-use Rattle.std.specs.Prelude.{nat_le, if◌then◌else◌, Option, Some, None, option_map, ℤ}
-use Rattle.values.specs.Values.{same_text}
-use Rattle.commands.specs.Schemas.{asking_none}
-use Rattle.commands.specs.declared.key.Key.{Key}
-use Rattle.commands.specs.declared.command.NewItem.{NewItem}
-use Rattle.commands.specs.declared.command.Command.{Command}
-use Rattle.commands.specs.declared.command.Command.TheVariants.{Order, Least, Urgent}
-use Rattle.commands.specs.declared.rows.LeastRow.{LeastRow}
-use Rattle.commands.specs.declared.rows.UrgentRow.{UrgentRow}
-use Rattle.machine.specs.Acts.{Act, next_number}
-use Rattle.machine.specs.Standing.{item_named, least_days, order_named}
-use Rattle.machine.specs.Tables.{Tables, meta_row, item_row, least_row, bin_row, lot_row, recall_row, stock_row, order_row, if_urgent, urgent_row, line_row, staged_row, reserved_row, shipment_row, shipline_row, card_row, repeat_row, tables_of}
-use Rattle.machine.specs.Schemas.{schema_of, are_of_schema, FirstBooksGoOn, SecondBooksGoOn}
+use Rattle.machine.proofs.Words.{◌≡◌, ℕ, true, false, ◌&&◌, List, [], ◌∷◌, refl, ap, sym, nat_le, if◌then◌else◌, Option, Some, None, option_map, ℤ, same_text, asking_none, Key, NewItem, Command, Order, Least, Urgent, LeastRow, UrgentRow, Act, next_number, item_named, least_days, order_named, Tables, meta_row, item_row, least_row, bin_row, lot_row, recall_row, stock_row, order_row, if_urgent, urgent_row, line_row, staged_row, reserved_row, shipment_row, shipline_row, card_row, repeat_row, tables_of, schema_of, are_of_schema, FirstBooksGoOn, SecondBooksGoOn}
 use Rattle.machine.proofs.Tests.{and_both}
 
 -- Days that are asked for

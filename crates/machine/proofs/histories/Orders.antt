@@ -1,19 +1,5 @@
 -- Orders: none has the name of another, and names and act numbers determine one another; the bookings of a closed order want nothing.
-use Rattle.std.proofs.Common.{◌≡◌, ℕ, ◌+◌, ◌-◌, Bool, true, false, List, [], ◌∷◌, refl, ap, sym, ◌∙◌, arith}
-use Rattle.std.specs.Prelude.{◌==◌, if◌then◌else◌, ℤ, Some, None, find, filter, map}
-use Rattle.std.specs.List.{list_all, cons_option}
-use Rattle.std.proofs.lemmas.Bool.{eqb-true}
-use Rattle.values.specs.Values.{same_text}
-use Rattle.commands.specs.declared.command.OrderLine.{OrderLine}
-use Rattle.commands.specs.declared.command.Command.{Command}
-use Rattle.commands.specs.declared.command.Command.TheVariants.{Urgent, Order}
-use Rattle.commands.specs.declared.rows.OrderState.TheVariants.{Open, Done, Cancelled}
-use Rattle.machine.specs.Acts.{Act, next_number}
-use Rattle.machine.specs.Postings.{Posting}
-use Rattle.machine.specs.Standing.{Placed, order_in, orders, order_named, lines_placed, is_cancelled}
-use Rattle.machine.specs.Planning.{Booking, booking_of, lines_of_item, need, item_postings, shipped, shipped_of, staged, is_open, is_open_state, is_shipped_in_full}
-use Rattle.machine.specs.Verdict.{verdict, names_item_twice}
-use Rattle.machine.specs.Once.{IsHistory}
+use Rattle.machine.proofs.Words.{◌≡◌, ℕ, ◌+◌, ◌-◌, Bool, true, false, List, [], ◌∷◌, refl, ap, sym, ◌∙◌, arith, ◌==◌, if◌then◌else◌, ℤ, Some, None, find, filter, map, list_all, cons_option, eqb-true, same_text, OrderLine, Command, Urgent, Order, Open, Done, Cancelled, Act, next_number, Posting, Placed, order_in, orders, order_named, lines_placed, is_cancelled, Booking, booking_of, lines_of_item, need, item_postings, shipped, shipped_of, staged, is_open, is_open_state, is_shipped_in_full, verdict, names_item_twice, IsHistory}
 use Rattle.machine.proofs.Tests.{and_both, same_text_is, same_text_refl, same_text_turned}
 use Rattle.machine.proofs.Apart.{AreApart, AllFound, all_found, any_found}
 use Rattle.machine.proofs.histories.Falling.{AllBelow, AreFalling, below_more, found_one}

@@ -1,29 +1,5 @@
 -- An act leaves the items alone that it does not touch.
-use Rattle.std.proofs.Common.{◌≡◌, ℕ, suc, ◌+◌, ◌-◌, Bool, true, false, ◌&&◌, not, List, [], ◌∷◌, ◌++◌, refl, ap, sym, ◌∙◌, arith}
-use Rattle.std.specs.Prelude.{◌==◌, ◌||◌, if◌then◌else◌, find, filter, map, reverse, flat_map, Option, Some, None, is_some, ℤ, pos, negsuc, int_lt, int_le, ◌+ℤ◌}
-use Rattle.std.specs.List.{list_any}
-use Rattle.std.proofs.lemmas.Int.{ints}
-use Rattle.values.specs.Values.{same_text}
-use Rattle.values.specs.declared.lot.LotId.{LotId}
-use Rattle.commands.specs.Lists.{total, in_order}
-use Rattle.commands.specs.declared.key.Key.{Key}
-use Rattle.commands.specs.declared.command.NewBin.{NewBin}
-use Rattle.commands.specs.declared.command.NewOrder.{NewOrder}
-use Rattle.commands.specs.declared.command.Receipt.{Receipt}
-use Rattle.commands.specs.declared.command.NewLeast.{NewLeast}
-use Rattle.commands.specs.declared.command.OrderLine.{OrderLine}
-use Rattle.commands.specs.declared.command.Command.{Command}
-use Rattle.commands.specs.declared.command.Command.TheVariants.{Item, Bin, Receive, Move, Count, Adjust, Order, Cancel, Pick, Unpick, Ship, Hold, Release, Recall, OpenDay, Least, Urgent}
-use Rattle.plan.specs.Overlap.{plan_rows}
-use Rattle.machine.specs.Acts.{Act, gathered, next_number}
-use Rattle.machine.specs.Postings.{Place, Supplier, InBin, Stage, Shipped, WriteOff, Posting, balance, units_in, units_out, is_bin, is_stage, is_lot, of_item}
-use Rattle.machine.specs.Standing.{KnownLot, Placed, RETURNS, lots, lots_of, lot_among, lot_known, has_bin, bin_named, is_store_bin, is_store_row, orders, order_named, lines_placed, has_line, is_cancelled, is_shippable, is_held, is_recalled, is_expired, says_held, hold_in, recall_in, least_in, days_asked, least_days, least_expiry, today, shipments_so_far}
-use Rattle.machine.specs.Ledger.{posting, written, cleared, shipped_off, lot_returned, returned, posted, postings}
-use Rattle.machine.specs.Planning.{is_urgent, is_normal, booking_of, lines_of_item, bookings, need, demands, demand_of, supplies, supply_of, goes_before, item_postings, staged, shipped, in_store, plan, reserved, reserved_of}
-use Rattle.machine.specs.Touched.{touches}
-use Rattle.machine.specs.Verdict.{verdict}
-use Rattle.machine.specs.Once.{IsHistory}
-use Rattle.machine.specs.Laws.{OtherItemsAreLeftAlone}
+use Rattle.machine.proofs.Words.{◌≡◌, ℕ, suc, ◌+◌, ◌-◌, Bool, true, false, ◌&&◌, not, List, [], ◌∷◌, ◌++◌, refl, ap, sym, ◌∙◌, arith, ◌==◌, ◌||◌, if◌then◌else◌, find, filter, map, reverse, flat_map, Option, Some, None, is_some, ℤ, pos, negsuc, int_lt, int_le, ◌+ℤ◌, list_any, ints, same_text, LotId, total, in_order, Key, NewBin, NewOrder, Receipt, NewLeast, OrderLine, Command, Item, Bin, Receive, Move, Count, Adjust, Order, Cancel, Pick, Unpick, Ship, Hold, Release, Recall, OpenDay, Least, Urgent, plan_rows, Act, gathered, next_number, Place, Supplier, InBin, Stage, Shipped, WriteOff, Posting, balance, units_in, units_out, is_bin, is_stage, is_lot, of_item, KnownLot, Placed, RETURNS, lots, lots_of, lot_among, lot_known, has_bin, bin_named, is_store_bin, is_store_row, orders, order_named, lines_placed, has_line, is_cancelled, is_shippable, is_held, is_recalled, is_expired, says_held, hold_in, recall_in, least_in, days_asked, least_days, least_expiry, today, shipments_so_far, posting, written, cleared, shipped_off, lot_returned, returned, posted, postings, is_urgent, is_normal, booking_of, lines_of_item, bookings, need, demands, demand_of, supplies, supply_of, goes_before, item_postings, staged, shipped, in_store, plan, reserved, reserved_of, touches, verdict, IsHistory, OtherItemsAreLeftAlone}
 use Rattle.machine.proofs.Mapping.{map_reversed, map_appended}
 use Rattle.machine.proofs.Tests.{same_text_is, same_text_refl, is_lot_is, or_none}
 use Rattle.machine.proofs.histories.Accepted.{bin_accepted, order_accepted, urgent_accepted, day_accepted}

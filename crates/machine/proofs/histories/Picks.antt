@@ -1,29 +1,5 @@
 -- A pick takes its units from its own reservation and from no other.
-use Rattle.std.proofs.Common.{◌≡◌, ℕ, ◌+◌, ◌-◌, ◌≤◌, Bool, true, false, ◌&&◌, List, [], ◌∷◌, ◌++◌, refl, ap, sym, subst, ◌∙◌, arith, eq-eqb}
-use Rattle.std.specs.Prelude.{◌==◌, ◌||◌, if◌then◌else◌, ℤ, Option, Some, None, is_some, filter, map, reverse, flat_map, nat_eq}
-use Rattle.std.specs.List.{list_any}
-use Rattle.std.proofs.lemmas.Bool.{eqb-true}
-use Rattle.std.proofs.lemmas.List.{reverse-append}
-use Rattle.values.specs.Values.{same_text, is_name, is_qty}
-use Rattle.values.specs.declared.lot.LotId.{LotId}
-use Rattle.commands.specs.Lists.{placed, in_order}
-use Rattle.commands.specs.Sound.{is_lot_id}
-use Rattle.commands.specs.declared.key.Key.{Key}
-use Rattle.commands.specs.declared.command.OrderLine.{OrderLine}
-use Rattle.commands.specs.declared.command.Picking.{Picking}
-use Rattle.commands.specs.declared.command.Command.TheVariants.{Pick}
-use Rattle.plan.specs.declared.Demand.{Demand}
-use Rattle.plan.specs.declared.Supply.{Supply}
-use Rattle.plan.specs.Laws.{AreBookingsDistinct, AreLotsDistinct}
-use Rattle.plan.specs.Overlap.{plan_rows, reserved_in}
-use Rattle.plan.proofs.Taking.{need_lowered, avail_lowered, lowering_disturbs_none}
-use Rattle.machine.specs.Acts.{Act, next_number}
-use Rattle.machine.specs.Postings.{Place, Supplier, InBin, Stage, Shipped, WriteOff, Posting, balance, is_stage, is_shipped_to, is_lot, of_item}
-use Rattle.machine.specs.Standing.{KnownLot, Placed, lots, lots_of, lot_known, is_shippable, orders, order_named, is_cancelled}
-use Rattle.machine.specs.Ledger.{postings}
-use Rattle.machine.specs.Planning.{is_urgent, is_normal, Booking, booking_of, lines_of_item, bookings, need, demand_of, demands, supply_of, supplies, shippable_lots, goes_before, item_postings, staged, shipped, in_store, store_units, plan, reserved, reserved_of}
-use Rattle.machine.specs.Once.{IsHistory}
-use Rattle.machine.specs.Laws.{PickDisturbsNone}
+use Rattle.machine.proofs.Words.{◌≡◌, ℕ, ◌+◌, ◌-◌, ◌≤◌, Bool, true, false, ◌&&◌, List, [], ◌∷◌, ◌++◌, refl, ap, sym, subst, ◌∙◌, arith, eq-eqb, ◌==◌, ◌||◌, if◌then◌else◌, ℤ, Option, Some, None, is_some, filter, map, reverse, flat_map, nat_eq, list_any, eqb-true, reverse-append, same_text, is_name, is_qty, LotId, placed, in_order, is_lot_id, Key, OrderLine, Picking, Pick, Demand, Supply, AreBookingsDistinct, AreLotsDistinct, plan_rows, reserved_in, need_lowered, avail_lowered, lowering_disturbs_none, Act, next_number, Place, Supplier, InBin, Stage, Shipped, WriteOff, Posting, balance, is_stage, is_shipped_to, is_lot, of_item, KnownLot, Placed, lots, lots_of, lot_known, is_shippable, orders, order_named, is_cancelled, postings, is_urgent, is_normal, Booking, booking_of, lines_of_item, bookings, need, demand_of, demands, supply_of, supplies, shippable_lots, goes_before, item_postings, staged, shipped, in_store, store_units, plan, reserved, reserved_of, IsHistory, PickDisturbsNone}
 use Rattle.machine.proofs.Tests.{same_text_is, same_text_refl, same_text_turned, is_lot_is, is_lot_refl, is_lot_item, same_tests, some_one, and_both}
 use Rattle.machine.proofs.Apart.{AllFound, AreApart, distinct_names, found_kept}
 use Rattle.machine.proofs.histories.Quantities.{at_least_one}

@@ -1,18 +1,5 @@
 -- Rows of bins, or of stages, add up to what their cells hold.
-use Rattle.std.proofs.Common.{◌≡◌, ℕ, Bool, true, false, ◌&&◌, not, List, [], ◌∷◌, refl, ap, sym, subst, ◌∙◌}
-use Rattle.std.specs.Prelude.{◌==◌, if◌then◌else◌, find, Some, None, ℤ}
-use Rattle.std.specs.List.{list_any}
-use Rattle.values.specs.Values.{same_text}
-use Rattle.values.specs.declared.lot.LotId.{LotId}
-use Rattle.commands.specs.Lists.{total}
-use Rattle.commands.specs.declared.rows.StockRow.{StockRow}
-use Rattle.commands.specs.declared.rows.StagedRow.{StagedRow}
-use Rattle.machine.specs.Acts.{Act}
-use Rattle.machine.specs.Postings.{Place, Supplier, InBin, Stage, Shipped, WriteOff, Posting, is_lot}
-use Rattle.machine.specs.Ledger.{postings}
-use Rattle.machine.specs.Planning.{in_bin, staged_of_lot}
-use Rattle.machine.specs.Tables.{if_any, stock_row, staged_row}
-use Rattle.machine.specs.KeyedRows.{AreRows, AreOwn, LotBin, OrderLot, no_two, same_cell, same_share}
+use Rattle.machine.proofs.Words.{◌≡◌, ℕ, Bool, true, false, ◌&&◌, not, List, [], ◌∷◌, refl, ap, sym, subst, ◌∙◌, ◌==◌, if◌then◌else◌, find, Some, None, ℤ, list_any, same_text, LotId, total, StockRow, StagedRow, Act, Place, Supplier, InBin, Stage, Shipped, WriteOff, Posting, is_lot, postings, in_bin, staged_of_lot, if_any, stock_row, staged_row, AreRows, AreOwn, LotBin, OrderLot, no_two, same_cell, same_share}
 use Rattle.machine.proofs.Tests.{and_both, or_none, not_true, is_zero, same_text_is, same_text_refl, is_lot_is, is_lot_refl}
 use Rattle.machine.proofs.histories.Cells.{Cells, Inner, Legal, holds}
 use Rattle.machine.proofs.histories.RowSums.{IsHoused, AllIn, AllApart, AreApart, AreHeld, AreEmpty, NotThere, IsLeft, cell_at, cut_out, rows_are_all, left_of}

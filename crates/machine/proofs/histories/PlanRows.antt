@@ -1,18 +1,5 @@
 -- In the plan of an item no booking has two rows of one lot, and no row is of nothing.
-use Rattle.std.proofs.Common.{◌≡◌, ℕ, ◌+◌, ◌<◌, Bool, true, false, ◌&&◌, not, List, [], ◌∷◌, ◌++◌, refl, ap, ◌∙◌, arith}
-use Rattle.std.specs.Prelude.{◌==◌, ◌||◌, if◌then◌else◌, ℤ, filter, map}
-use Rattle.std.specs.List.{list_any}
-use Rattle.std.proofs.lemmas.Bool.{eqb-true}
-use Rattle.commands.specs.Lists.{placed, in_order}
-use Rattle.plan.specs.declared.Demand.{Demand}
-use Rattle.plan.specs.declared.Supply.{Supply}
-use Rattle.plan.specs.declared.Row.{Row}
-use Rattle.plan.specs.Overlap.{Stretch, overlap, row_of, rows_of_demand, rows_of_stretches, demands_laid, supplies_laid}
-use Rattle.machine.specs.Acts.{Act}
-use Rattle.machine.specs.Standing.{KnownLot, lots, lots_of, is_shippable}
-use Rattle.machine.specs.Planning.{demands, supplies, supply_of, goes_before, shippable_lots, item_postings, plan}
-use Rattle.machine.specs.Once.{IsHistory}
-use Rattle.machine.specs.KeyedRows.{no_two}
+use Rattle.machine.proofs.Words.{◌≡◌, ℕ, ◌+◌, ◌<◌, Bool, true, false, ◌&&◌, not, List, [], ◌∷◌, ◌++◌, refl, ap, ◌∙◌, arith, ◌==◌, ◌||◌, if◌then◌else◌, ℤ, filter, map, list_any, eqb-true, placed, in_order, Demand, Supply, Row, Stretch, overlap, row_of, rows_of_demand, rows_of_stretches, demands_laid, supplies_laid, Act, KnownLot, lots, lots_of, is_shippable, demands, supplies, supply_of, goes_before, shippable_lots, item_postings, plan, IsHistory, no_two}
 use Rattle.machine.proofs.Numbers.{unequal_above, unequal_turned}
 use Rattle.machine.proofs.Tests.{or_none, and_later_false}
 use Rattle.machine.proofs.histories.Falling.{AllBelow, AreFalling}

@@ -1,8 +1,5 @@
 -- What a quantity of a command is at least and at most.
-use Rattle.std.proofs.Common.{◌≡◌, ℕ, ◌≤◌, true, arith}
-use Rattle.std.specs.Prelude.{nat_le}
-use Rattle.std.proofs.lemmas.Bool.Decides.{nat_tests}
-use Rattle.values.specs.Values.{QTY_MAX, is_qty}
+use Rattle.machine.proofs.Words.{◌≡◌, ℕ, ◌≤◌, true, arith, nat_le, nat_tests, QTY_MAX, is_qty}
 use Rattle.machine.proofs.Tests.{and_both}
 
 pub at_least_one : (q : ℕ) → is_qty q ≡ true → 1 ≤ q

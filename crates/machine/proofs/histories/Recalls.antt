@@ -1,25 +1,5 @@
 -- A recall disturbs no booking before the first one that has units of the lot.
-use Rattle.std.proofs.Common.{◌≡◌, ℕ, ◌+◌, ◌-◌, Bool, true, false, ◌&&◌, not, List, [], ◌∷◌, ◌++◌, refl, ap, sym, subst, ◌∙◌, eq-eqb}
-use Rattle.std.specs.Prelude.{◌==◌, ◌||◌, if◌then◌else◌, ℤ, Option, Some, None, is_some, filter, map, flat_map, reverse}
-use Rattle.std.specs.List.{list_any}
-use Rattle.std.proofs.lemmas.Bool.{eqb-true}
-use Rattle.values.specs.Values.{same_text}
-use Rattle.values.specs.declared.lot.LotId.{LotId}
-use Rattle.commands.specs.Lists.{in_order}
-use Rattle.commands.specs.declared.key.Key.{Key}
-use Rattle.commands.specs.declared.command.OrderLine.{OrderLine}
-use Rattle.commands.specs.declared.command.Command.TheVariants.{Recall}
-use Rattle.plan.specs.declared.Demand.{Demand}
-use Rattle.plan.specs.Laws.{AreBookingsDistinct}
-use Rattle.plan.specs.Overlap.{plan_rows, reserved_in}
-use Rattle.plan.proofs.Removing.{removing_disturbs_none}
-use Rattle.machine.specs.Acts.{Act, next_number}
-use Rattle.machine.specs.Postings.{Posting, is_stage, is_lot, of_item}
-use Rattle.machine.specs.Standing.{KnownLot, Placed, lots, lots_of, lot_known, is_shippable, is_held, is_recalled, recalling, is_expired, least_expiry, is_store_row, orders, order_named, is_cancelled}
-use Rattle.machine.specs.Ledger.{postings}
-use Rattle.machine.specs.Planning.{is_urgent, is_normal, Booking, booking_of, lines_of_item, bookings, demand_of, demands, supply_of, supplies, shippable_lots, goes_before, item_postings, staged, shipped, staged_of_lot, in_store, store_units, plan, reserved, reserved_of}
-use Rattle.machine.specs.Once.{IsHistory}
-use Rattle.machine.specs.Laws.{has_of_lot, RecallDisturbsNone, RecallDisturbsLaterAlone}
+use Rattle.machine.proofs.Words.{◌≡◌, ℕ, ◌+◌, ◌-◌, Bool, true, false, ◌&&◌, not, List, [], ◌∷◌, ◌++◌, refl, ap, sym, subst, ◌∙◌, eq-eqb, ◌==◌, ◌||◌, if◌then◌else◌, ℤ, Option, Some, None, is_some, filter, map, flat_map, reverse, list_any, eqb-true, same_text, LotId, in_order, Key, OrderLine, Recall, Demand, AreBookingsDistinct, plan_rows, reserved_in, removing_disturbs_none, Act, next_number, Posting, is_stage, is_lot, of_item, KnownLot, Placed, lots, lots_of, lot_known, is_shippable, is_held, is_recalled, recalling, is_expired, least_expiry, is_store_row, orders, order_named, is_cancelled, postings, is_urgent, is_normal, Booking, booking_of, lines_of_item, bookings, demand_of, demands, supply_of, supplies, shippable_lots, goes_before, item_postings, staged, shipped, staged_of_lot, in_store, store_units, plan, reserved, reserved_of, IsHistory, has_of_lot, RecallDisturbsNone, RecallDisturbsLaterAlone}
 use Rattle.machine.proofs.Tests.{same_text_is, same_text_refl, same_text_turned, is_lot_is, is_lot_refl, is_lot_turned, same_tests, some_one, or_none, and_false, is_zero}
 use Rattle.machine.proofs.Apart.{AllFound, AreApart, found_kept}
 use Rattle.machine.proofs.histories.Served.{demands_apart as apart_demands}

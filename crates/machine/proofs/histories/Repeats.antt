@@ -1,18 +1,5 @@
 -- Requests that repeat an accepted one: they leave the acts, and get the reply of the one that was accepted.
-use Rattle.std.proofs.Common.{◌≡◌, ℕ, true, false, ◌&&◌, List, [], ◌∷◌, ◌++◌, refl, ap, sym, ◌∙◌}
-use Rattle.std.specs.Prelude.{◌||◌, if◌then◌else◌, ℤ, Option, Some, None}
-use Rattle.std.specs.List.{list_any}
-use Rattle.values.specs.Values.{same_text}
-use Rattle.commands.specs.Spelling.{key_text}
-use Rattle.commands.specs.declared.key.Key.{Key}
-use Rattle.commands.specs.declared.refusal.Refusal.{Refusal}
-use Rattle.commands.specs.declared.refusal.Refusal.TheVariants.{KeyUsed}
-use Rattle.machine.specs.Acts.{Act}
-use Rattle.machine.specs.Verdict.{verdict}
-use Rattle.machine.specs.Replies.{reply}
-use Rattle.machine.specs.Once.{Earlier, bearer, Outcome, Accepted, Repeated, Refused, judged, told_again, outcome, appended, acts_after, same_command, same_key}
-use Rattle.machine.specs.Machine.{acts_after_all}
-use Rattle.machine.specs.Laws.{repeats, once_each, RepeatsActOnce, WasAccepted, RepeatsGetTheFirstReply}
+use Rattle.machine.proofs.Words.{◌≡◌, ℕ, true, false, ◌&&◌, List, [], ◌∷◌, ◌++◌, refl, ap, sym, ◌∙◌, ◌||◌, if◌then◌else◌, ℤ, Option, Some, None, list_any, same_text, key_text, Key, Refusal, KeyUsed, Act, verdict, reply, Earlier, bearer, Outcome, Accepted, Repeated, Refused, judged, told_again, outcome, appended, acts_after, same_command, same_key, acts_after_all, repeats, once_each, RepeatsActOnce, WasAccepted, RepeatsGetTheFirstReply}
 use Rattle.machine.proofs.Tests.{and_both, same_text_is}
 
 -- A request that repeats leaves the acts

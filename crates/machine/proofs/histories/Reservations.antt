@@ -1,13 +1,5 @@
 -- No booking has more reserved than it needs, and no lot more than there is of it.
-use Rattle.std.proofs.Common.{ℕ, ◌+◌, ◌≤◌, Bool, true, false, List, [], ◌∷◌, arith}
-use Rattle.std.specs.Prelude.{◌==◌, if◌then◌else◌}
-use Rattle.plan.specs.Lists.{total}
-use Rattle.plan.specs.Overlap.{Stretch, overlap, plan_rows, reserved_in, reserved_for, reserved_on, demands_laid, supplies_laid}
-use Rattle.plan.specs.declared.Demand.{Demand}
-use Rattle.plan.specs.declared.Supply.{Supply}
-use Rattle.plan.specs.declared.Row.{Row}
-use Rattle.plan.proofs.Sums.{counted_plan, reserved_on_sum}
-use Rattle.plan.proofs.Line.{on_pieces, pieces_on}
+use Rattle.machine.proofs.Words.{ℕ, ◌+◌, ◌≤◌, Bool, true, false, List, [], ◌∷◌, arith, ◌==◌, if◌then◌else◌, plan_total as total, Stretch, overlap, plan_rows, reserved_in, reserved_for, reserved_on, demands_laid, supplies_laid, Demand, Supply, Row, counted_plan, reserved_on_sum, on_pieces, pieces_on}
 use Rattle.machine.proofs.Numbers.{fewer_if_both, total_zero}
 
 in_booking : (b l : ℕ) (rows : List Row) → reserved_in b l rows ≤ reserved_for b rows

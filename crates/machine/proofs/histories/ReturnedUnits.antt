@@ -1,14 +1,5 @@
 -- What is booked where staged units of lots go to the bin RETURNS.
-use Rattle.std.proofs.Common.{◌≡◌, ℕ, ◌+◌, Bool, true, false, List, [], ◌∷◌, ◌++◌, refl, ap, sym, arith}
-use Rattle.std.specs.Prelude.{◌==◌, if◌then◌else◌, filter, flat_map, ℤ}
-use Rattle.values.specs.declared.lot.LotId.{LotId}
-use Rattle.commands.specs.Lists.{total}
-use Rattle.commands.specs.declared.rows.CardRow.{CardRow}
-use Rattle.machine.specs.Acts.{Act}
-use Rattle.machine.specs.Postings.{InBin, Stage, Posting, balance, is_stage, is_lot}
-use Rattle.machine.specs.Standing.{KnownLot, Placed, RETURNS}
-use Rattle.machine.specs.Ledger.{posting, cleared, lot_returned, returned}
-use Rattle.machine.specs.Cards.{card_lines}
+use Rattle.machine.proofs.Words.{◌≡◌, ℕ, ◌+◌, Bool, true, false, List, [], ◌∷◌, ◌++◌, refl, ap, sym, arith, ◌==◌, if◌then◌else◌, filter, flat_map, ℤ, LotId, total, CardRow, Act, InBin, Stage, Posting, balance, is_stage, is_lot, KnownLot, Placed, RETURNS, posting, cleared, lot_returned, returned, card_lines}
 use Rattle.machine.proofs.histories.Cells.{Cells, into, out_of, into-append, out_of-append, holds}
 
 module _ (n : ℕ) (os : List Placed) (ps : List Posting) where

@@ -1,15 +1,5 @@
 -- The bin RETURNS is a HOLD bin throughout each history: no command can make a bin of that name.
-use Rattle.std.proofs.Common.{◌≡◌, ℕ, true, false, List, [], ◌∷◌, ◌++◌, refl, ap, sym, ◌∙◌}
-use Rattle.std.specs.Prelude.{if◌then◌else◌, Some, None, find, is_some, ℤ}
-use Rattle.std.specs.List.{cons_option}
-use Rattle.values.specs.Values.{same_text}
-use Rattle.commands.specs.declared.command.NewBin.{NewBin}
-use Rattle.commands.specs.declared.command.Command.{Command}
-use Rattle.commands.specs.declared.command.Command.TheVariants.{Bin}
-use Rattle.machine.specs.Acts.{Act, gathered, next_number}
-use Rattle.machine.specs.Standing.{RETURNS, bin_in, bins, bin_named, has_bin, returns_bin}
-use Rattle.machine.specs.Verdict.{verdict}
-use Rattle.machine.specs.Once.{IsHistory}
+use Rattle.machine.proofs.Words.{◌≡◌, ℕ, true, false, List, [], ◌∷◌, ◌++◌, refl, ap, sym, ◌∙◌, if◌then◌else◌, Some, None, find, is_some, ℤ, cons_option, same_text, NewBin, Command, Bin, Act, gathered, next_number, RETURNS, bin_in, bins, bin_named, has_bin, returns_bin, verdict, IsHistory}
 use Rattle.machine.proofs.Tests.{same_text_refl, same_text_is}
 use Rattle.machine.proofs.histories.Accepted.{bin_accepted}
 

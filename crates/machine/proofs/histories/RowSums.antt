@@ -1,9 +1,5 @@
 -- Rows of cells add up to the balance of all their cells, if the other cells are empty.
-use Rattle.std.proofs.Common.{◌≡◌, ℕ, ◌+◌, Bool, true, false, ◌&&◌, not, List, [], ◌∷◌, refl, ap, sym, ◌∙◌, arith}
-use Rattle.std.specs.Prelude.{if◌then◌else◌}
-use Rattle.values.specs.declared.lot.LotId.{LotId}
-use Rattle.commands.specs.Lists.{total}
-use Rattle.machine.specs.Postings.{Place, Supplier, InBin, Stage, Shipped, WriteOff, Posting}
+use Rattle.machine.proofs.Words.{◌≡◌, ℕ, ◌+◌, Bool, true, false, ◌&&◌, not, List, [], ◌∷◌, refl, ap, sym, ◌∙◌, arith, if◌then◌else◌, LotId, total, Place, Supplier, InBin, Stage, Shipped, WriteOff, Posting}
 use Rattle.machine.proofs.Tests.{and_both, not_true, same_text_refl, is_lot_refl}
 use Rattle.machine.proofs.histories.Cells.{Cells, into, without, IsPart, Legal, Inner, inner_without, holds, holds_split, bin_cell, stage_cell, bin_part, stage_part, inner_bin, inner_stage}
 

@@ -1,14 +1,5 @@
 -- A step leads from a history to a history, and a run does.
-use Rattle.std.proofs.Common.{◌≡◌, ℕ, true, false, List, [], ◌∷◌, refl, ap, sym, subst, ◌∙◌}
-use Rattle.std.specs.Prelude.{if◌then◌else◌, map, ℤ, Option, Some, None}
-use Rattle.commands.specs.declared.refusal.Refusal.{Refusal}
-use Rattle.commands.specs.declared.refusal.Refusal.TheVariants.{KeyUsed}
-use Rattle.machine.specs.Acts.{Act}
-use Rattle.machine.specs.Verdict.{verdict}
-use Rattle.machine.specs.Replies.{reply}
-use Rattle.machine.specs.Once.{Earlier, bearer, Outcome, Accepted, Repeated, Refused, judged, told_again, outcome, appended, acts_after, IsHistory, IsSoundRequest, same_command, Tally, tallied, unless_refused, all_tallied, tally, acts_if_taken}
-use Rattle.machine.specs.Laws.{RunsGoOn, RunsWithMemory, FilesGoOn}
-use Rattle.machine.specs.Machine.{AllSound, Answer, Told, NoMemory, Step, Run, acts_after_all, outcomes}
+use Rattle.machine.proofs.Words.{◌≡◌, ℕ, true, false, List, [], ◌∷◌, refl, ap, sym, subst, ◌∙◌, if◌then◌else◌, map, ℤ, Option, Some, None, Refusal, KeyUsed, Act, verdict, reply, Earlier, bearer, Outcome, Accepted, Repeated, Refused, judged, told_again, outcome, appended, acts_after, IsHistory, IsSoundRequest, same_command, Tally, tallied, unless_refused, all_tallied, tally, acts_if_taken, RunsGoOn, RunsWithMemory, FilesGoOn, AllSound, Answer, Told, NoMemory, Step, Run, acts_after_all, outcomes}
 
 module _ (first : ℤ) (act : Act) (acts : List Act) (sound : IsSoundRequest act) (history : IsHistory first acts) where
   history_judged : (v : Option Refusal) → verdict first acts act.command ≡ v → bearer act.key acts ≡ None → IsHistory first (appended act acts (judged first act acts v))

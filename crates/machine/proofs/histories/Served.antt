@@ -1,21 +1,6 @@
 -- Bookings of two classes of orders, the urgent ones served first.
-use Rattle.std.proofs.Common.{◌≡◌, ℕ, ◌+◌, ◌≤◌, ◌<◌, Bool, true, false, ◌&&◌, not, List, [], ◌∷◌, ◌++◌, refl, ap, sym, ◌∙◌, subst, arith, eq-eqb}
-use Rattle.std.specs.Prelude.{◌==◌, ◌||◌, if◌then◌else◌, ℤ, filter, map, flat_map, reverse, nat_lt}
-use Rattle.std.specs.List.{list_any, AllByRecursion}
-use Rattle.std.proofs.lemmas.Bool.{eqb-true}
 use borrow.Author.Tests.{ltb-false, ltb-true, lt-ltb}
-use Rattle.values.specs.Values.{same_text}
-use Rattle.commands.specs.declared.command.OrderLine.{OrderLine}
-use Rattle.commands.specs.Lists.{total}
-use Rattle.plan.specs.Lists.{total as plan_total}
-use Rattle.plan.specs.declared.Demand.{Demand}
-use Rattle.plan.proofs.Ranked.{IsOrder, AllAfter, IsRising, same_non_zero}
-use Rattle.plan.proofs.Nothing.{wanted}
-use Rattle.machine.specs.Acts.{Act}
-use Rattle.machine.specs.Postings.{Posting}
-use Rattle.machine.specs.Standing.{Placed, orders}
-use Rattle.machine.specs.Once.{IsHistory}
-use Rattle.machine.specs.Planning.{Booking, booking_of, lines_of_item, need, demand_of, demands, item_postings, is_urgent}
+use Rattle.machine.proofs.Words.{◌≡◌, ℕ, ◌+◌, ◌≤◌, ◌<◌, Bool, true, false, ◌&&◌, not, List, [], ◌∷◌, ◌++◌, refl, ap, sym, ◌∙◌, subst, arith, eq-eqb, ◌==◌, ◌||◌, if◌then◌else◌, ℤ, filter, map, flat_map, reverse, nat_lt, list_any, AllByRecursion, eqb-true, same_text, OrderLine, total, plan_total, Demand, IsOrder, AllAfter, IsRising, same_non_zero, wanted, Act, Posting, Placed, orders, IsHistory, Booking, booking_of, lines_of_item, need, demand_of, demands, item_postings, is_urgent}
 use Rattle.machine.proofs.Tests.{and_false}
 use Rattle.machine.proofs.Numbers.{unequal_below, unequal_above}
 use Rattle.machine.proofs.Apart.{AreApart}

@@ -1,13 +1,5 @@
 -- Stages that are emptied: what of a lot is staged for the order goes to the place, and all else stays where it is.
-use Rattle.std.proofs.Common.{◌≡◌, ℕ, ◌+◌, Bool, true, false, ◌&&◌, List, [], ◌∷◌, ◌++◌, refl, ap, sym, ◌∙◌, arith}
-use Rattle.std.specs.Prelude.{◌==◌, ◌||◌, if◌then◌else◌, flat_map}
-use Rattle.std.specs.List.{list_any}
-use Rattle.std.proofs.lemmas.Bool.{eqb-true}
-use Rattle.values.specs.declared.lot.LotId.{LotId}
-use Rattle.commands.specs.Lists.{total}
-use Rattle.machine.specs.Postings.{Place, Supplier, Stage, Shipped, WriteOff, Posting, balance, is_stage, is_lot}
-use Rattle.machine.specs.Standing.{KnownLot}
-use Rattle.machine.specs.Ledger.{posting, cleared, shipped_off}
+use Rattle.machine.proofs.Words.{◌≡◌, ℕ, ◌+◌, Bool, true, false, ◌&&◌, List, [], ◌∷◌, ◌++◌, refl, ap, sym, ◌∙◌, arith, ◌==◌, ◌||◌, if◌then◌else◌, flat_map, list_any, eqb-true, LotId, total, Place, Supplier, Stage, Shipped, WriteOff, Posting, balance, is_stage, is_lot, KnownLot, posting, cleared, shipped_off}
 use Rattle.machine.proofs.Tests.{is_lot_is}
 use Rattle.machine.proofs.Apart.{AreApart}
 use Rattle.machine.proofs.histories.Cells.{Cells, Inner, Legal, into, out_of, holds, into-append, out_of-append, never_overdrawn}

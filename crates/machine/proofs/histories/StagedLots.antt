@@ -1,22 +1,5 @@
 -- On a history a staged lot is shippable, and so is a lot that is shipped.
-use Rattle.std.proofs.Common.{◌≡◌, ℕ, ◌+◌, ◌-◌, ◌≤◌, Bool, true, false, ◌&&◌, not, List, [], ◌∷◌, ◌++◌, refl, ap, sym, ◌∙◌, arith}
-use Rattle.std.specs.Prelude.{◌==◌, if◌then◌else◌, find, filter, flat_map, Option, Some, None, is_some, ℤ}
-use Rattle.std.proofs.lemmas.Bool.{eqb-true}
-use Rattle.values.specs.Values.{same_text}
-use Rattle.values.specs.declared.lot.LotId.{LotId}
-use Rattle.commands.specs.Lists.{total}
-use Rattle.commands.specs.declared.key.Key.{Key}
-use Rattle.commands.specs.declared.command.Receipt.{Receipt}
-use Rattle.commands.specs.declared.command.Command.{Command}
-use Rattle.commands.specs.declared.command.Command.TheVariants.{Item, Bin, Receive, Move, Count, Adjust, Order, Cancel, Pick, Unpick, Ship, Hold, Release, Recall, OpenDay, Least, Urgent}
-use Rattle.machine.specs.Acts.{Act, gathered, next_number}
-use Rattle.machine.specs.Postings.{Place, InBin, Stage, Shipped, Posting, balance, is_stage, is_lot}
-use Rattle.machine.specs.Standing.{KnownLot, Placed, RETURNS, lots, lot_among, lot_known, with_receipt, hold_in, says_held, is_held, is_recalled, is_expired, least_days, least_expiry, today, is_shippable, orders, order_named, shipments_so_far}
-use Rattle.machine.specs.Ledger.{posting, cleared, shipped_off, lot_returned, returned, made_unshippable, posted, postings}
-use Rattle.machine.specs.Planning.{staged_of_lot}
-use Rattle.machine.specs.Verdict.{verdict, is_past, is_below}
-use Rattle.machine.specs.Once.{IsHistory}
-use Rattle.machine.specs.Laws.{IsShippableLot, StagedLotsAreShippable, ShippedLotsAreShippable}
+use Rattle.machine.proofs.Words.{◌≡◌, ℕ, ◌+◌, ◌-◌, ◌≤◌, Bool, true, false, ◌&&◌, not, List, [], ◌∷◌, ◌++◌, refl, ap, sym, ◌∙◌, arith, ◌==◌, if◌then◌else◌, find, filter, flat_map, Option, Some, None, is_some, ℤ, eqb-true, same_text, LotId, total, Key, Receipt, Command, Item, Bin, Receive, Move, Count, Adjust, Order, Cancel, Pick, Unpick, Ship, Hold, Release, Recall, OpenDay, Least, Urgent, Act, gathered, next_number, Place, InBin, Stage, Shipped, Posting, balance, is_stage, is_lot, KnownLot, Placed, RETURNS, lots, lot_among, lot_known, with_receipt, hold_in, says_held, is_held, is_recalled, is_expired, least_days, least_expiry, today, is_shippable, orders, order_named, shipments_so_far, posting, cleared, shipped_off, lot_returned, returned, made_unshippable, posted, postings, staged_of_lot, verdict, is_past, is_below, IsHistory, IsShippableLot, StagedLotsAreShippable, ShippedLotsAreShippable}
 use Rattle.machine.proofs.Tests.{same_text_refl, is_lot_refl, is_lot_is}
 use Rattle.machine.proofs.histories.Accepted.{pick_accepted}
 use Rattle.machine.proofs.histories.Cells.{Cells, into, out_of, into-append, out_of-append, holds, stage_cell}

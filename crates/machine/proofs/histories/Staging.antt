@@ -1,13 +1,5 @@
 -- Only a pick brings units on to a stage.
-use Rattle.std.proofs.Common.{◌≡◌, ℕ, suc, ◌+◌, ◌-◌, ◌≤◌, Bool, true, false, List, [], ◌∷◌, ◌++◌, refl, ap, sym, ◌∙◌, arith}
-use Rattle.std.specs.Prelude.{◌==◌, if◌then◌else◌, ℤ, pos, negsuc}
-use Rattle.values.specs.declared.lot.LotId.{LotId}
-use Rattle.commands.specs.declared.command.Command.{Command}
-use Rattle.commands.specs.declared.command.Command.TheVariants.{Item, Bin, Receive, Move, Count, Adjust, Order, Cancel, Pick, Unpick, Ship, Hold, Release, Recall, OpenDay, Least, Urgent}
-use Rattle.machine.specs.Acts.{Act, next_number}
-use Rattle.machine.specs.Postings.{Place, Supplier, InBin, Stage, Shipped, WriteOff, Posting, balance, is_bin, is_stage, is_lot}
-use Rattle.machine.specs.Standing.{KnownLot, Placed, RETURNS, lots, orders, shipments_so_far}
-use Rattle.machine.specs.Ledger.{posting, correction, written, cleared, shipped_off, lot_returned, returned, made_unshippable, posted}
+use Rattle.machine.proofs.Words.{◌≡◌, ℕ, suc, ◌+◌, ◌-◌, ◌≤◌, Bool, true, false, List, [], ◌∷◌, ◌++◌, refl, ap, sym, ◌∙◌, arith, ◌==◌, if◌then◌else◌, ℤ, pos, negsuc, LotId, Command, Item, Bin, Receive, Move, Count, Adjust, Order, Cancel, Pick, Unpick, Ship, Hold, Release, Recall, OpenDay, Least, Urgent, Act, next_number, Place, Supplier, InBin, Stage, Shipped, WriteOff, Posting, balance, is_bin, is_stage, is_lot, KnownLot, Placed, RETURNS, lots, orders, shipments_so_far, posting, correction, written, cleared, shipped_off, lot_returned, returned, made_unshippable, posted}
 use Rattle.machine.proofs.histories.Cells.{Cells, into, out_of, into-append, out_of-append, holds}
 
 -- cells of stages, and of the shipments that they go to

@@ -1,18 +1,5 @@
 -- On a history no item has more units in the house than the limit.
-use Rattle.std.proofs.Common.{◌≡◌, ℕ, suc, ◌+◌, ◌-◌, ◌≤◌, Bool, true, false, ◌&&◌, List, [], ◌∷◌, ◌++◌, refl, ap, sym, ◌∙◌, arith, lit≤}
-use Rattle.std.specs.Prelude.{◌==◌, if◌then◌else◌, ℤ, pos, negsuc, None}
-use Rattle.values.specs.declared.lot.LotId.{LotId}
-use Rattle.commands.specs.declared.limits.TheConstants.{UNITS_MAX}
-use Rattle.commands.specs.declared.key.Key.{Key}
-use Rattle.commands.specs.declared.command.Command.{Command}
-use Rattle.commands.specs.declared.command.Command.TheVariants.{Item, Bin, Receive, Move, Count, Adjust, Order, Cancel, Pick, Unpick, Ship, Hold, Release, Recall, OpenDay, Least, Urgent}
-use Rattle.machine.specs.Acts.{Act, next_number}
-use Rattle.machine.specs.Postings.{Place, Supplier, InBin, Stage, Shipped, WriteOff, Posting, balance, is_stage, is_lot, of_item, in_house}
-use Rattle.machine.specs.Standing.{KnownLot, Placed, RETURNS, lots, orders, shipments_so_far}
-use Rattle.machine.specs.Ledger.{posting, correction, written, cleared, shipped_off, lot_returned, returned, made_unshippable, posted, postings}
-use Rattle.machine.specs.Planning.{in_bin, units_in_house}
-use Rattle.machine.specs.Verdict.{verdict, taken_off, put_on}
-use Rattle.machine.specs.Once.{IsHistory}
+use Rattle.machine.proofs.Words.{◌≡◌, ℕ, suc, ◌+◌, ◌-◌, ◌≤◌, Bool, true, false, ◌&&◌, List, [], ◌∷◌, ◌++◌, refl, ap, sym, ◌∙◌, arith, lit≤, ◌==◌, if◌then◌else◌, ℤ, pos, negsuc, None, LotId, UNITS_MAX, Key, Command, Item, Bin, Receive, Move, Count, Adjust, Order, Cancel, Pick, Unpick, Ship, Hold, Release, Recall, OpenDay, Least, Urgent, Act, next_number, Place, Supplier, InBin, Stage, Shipped, WriteOff, Posting, balance, is_stage, is_lot, of_item, in_house, KnownLot, Placed, RETURNS, lots, orders, shipments_so_far, posting, correction, written, cleared, shipped_off, lot_returned, returned, made_unshippable, posted, postings, in_bin, units_in_house, verdict, taken_off, put_on, IsHistory}
 use Rattle.machine.proofs.Numbers.{nothing_if}
 use Rattle.machine.proofs.Tests.{same_text_is, is_zero}
 use Rattle.machine.proofs.histories.Accepted.{receive_accepted, count_accepted, adjust_accepted}

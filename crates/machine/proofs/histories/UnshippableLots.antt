@@ -1,22 +1,5 @@
 -- An act by which one lot stops being shippable: what was staged of it is in the bin RETURNS then, and all else is where it was.
-use Rattle.std.proofs.Common.{◌≡◌, ℕ, ◌+◌, ◌≤◌, Bool, true, false, ◌&&◌, not, List, ◌∷◌, ◌++◌, refl, ap, sym, subst, ◌∙◌, arith, eq-eqb}
-use Rattle.std.specs.Prelude.{◌==◌, if◌then◌else◌, find, flat_map, option_map, ℤ}
-use Rattle.std.specs.List.{list_any, list_all}
-use Rattle.values.specs.Values.{same_text}
-use Rattle.values.specs.declared.lot.LotId.{LotId}
-use Rattle.commands.specs.Lists.{total}
-use Rattle.commands.specs.declared.rows.OrderState.TheVariants.{Open, Done, Cancelled}
-use Rattle.commands.specs.declared.rows.CardRow.{CardRow}
-use Rattle.machine.specs.Acts.{Act, gathered, next_number}
-use Rattle.machine.specs.Postings.{Place, Supplier, InBin, Stage, Shipped, WriteOff, Posting, balance, is_bin, is_lot, is_stage, is_shipped_to, is_shipment, of_item}
-use Rattle.machine.specs.Standing.{KnownLot, Placed, RETURNS, bins, lots, is_shippable, orders, lines_placed, has_line, cancel_in}
-use Rattle.machine.specs.Ledger.{returned, made_unshippable, postings, postings_of}
-use Rattle.machine.specs.Planning.{in_bin, staged_of_lot, shipped_of, is_open, is_open_state}
-use Rattle.machine.specs.Cards.{cards, card_lines}
-use Rattle.machine.specs.Replies.{units_returned}
-use Rattle.machine.specs.Once.{IsHistory}
-use Rattle.machine.specs.Tables.{if_any, order_row, line_row, shipline_row, card_row}
-use Rattle.machine.specs.KeyedRows.{same_cell}
+use Rattle.machine.proofs.Words.{◌≡◌, ℕ, ◌+◌, ◌≤◌, Bool, true, false, ◌&&◌, not, List, ◌∷◌, ◌++◌, refl, ap, sym, subst, ◌∙◌, arith, eq-eqb, ◌==◌, if◌then◌else◌, find, flat_map, option_map, ℤ, list_any, list_all, same_text, LotId, total, Open, Done, Cancelled, CardRow, Act, gathered, next_number, Place, Supplier, InBin, Stage, Shipped, WriteOff, Posting, balance, is_bin, is_lot, is_stage, is_shipped_to, is_shipment, of_item, KnownLot, Placed, RETURNS, bins, lots, is_shippable, orders, lines_placed, has_line, cancel_in, returned, made_unshippable, postings, postings_of, in_bin, staged_of_lot, shipped_of, is_open, is_open_state, cards, card_lines, units_returned, IsHistory, if_any, order_row, line_row, shipline_row, card_row, same_cell}
 use Rattle.machine.proofs.Tests.{is_zero, is_lot_is, is_lot_refl, is_lot_turned, same_text_refl}
 use Rattle.machine.proofs.histories.Cells.{Cells, IsPart, Inner, Legal, without, into, out_of, into-append, out_of-append, holds, holds_split, never_overdrawn}
 use Rattle.machine.proofs.histories.ItemBalances.{balance-of_item}

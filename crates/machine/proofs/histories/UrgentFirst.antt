@@ -1,21 +1,5 @@
 -- An urgent order gets what it would get if no others had booked but urgent ones.
-use Rattle.std.proofs.Common.{◌≡◌, ℕ, ◌+◌, Bool, true, false, ◌&&◌, List, [], ◌∷◌, ◌++◌, refl, ap, sym, ◌∙◌, subst, arith}
-use Rattle.std.specs.Prelude.{◌==◌, if◌then◌else◌, ℤ, map, Option, Some, None, find}
-use Rattle.std.specs.List.{AllByRecursion}
-use Rattle.std.proofs.lemmas.Bool.{eqb-true}
-use Rattle.values.specs.Values.{same_text}
-use Rattle.plan.specs.Lists.{total}
-use Rattle.plan.specs.Overlap.{Stretch, overlap, demands_laid, supplies_laid, demand_total, plan_rows, reserved_in}
-use Rattle.plan.specs.declared.Demand.{Demand}
-use Rattle.plan.specs.declared.Supply.{Supply}
-use Rattle.plan.proofs.Laying.{demands_laid-append}
-use Rattle.plan.proofs.Naming.{HaveOther, none_of}
-use Rattle.plan.proofs.Sums.{zero_total, total-append, counted_plan}
-use Rattle.machine.specs.Acts.{Act}
-use Rattle.machine.specs.Standing.{KnownLot, Placed, orders, order_named, lot_known}
-use Rattle.machine.specs.Planning.{is_urgent, is_normal, bookings_of, demand_of, item_postings, supplies, plan, reserved_of}
-use Rattle.machine.specs.Once.{IsHistory}
-use Rattle.machine.specs.Laws.{urgent_plan, UrgentOrdersComeFirst}
+use Rattle.machine.proofs.Words.{◌≡◌, ℕ, ◌+◌, Bool, true, false, ◌&&◌, List, [], ◌∷◌, ◌++◌, refl, ap, sym, ◌∙◌, subst, arith, ◌==◌, if◌then◌else◌, ℤ, map, Option, Some, None, find, AllByRecursion, eqb-true, same_text, plan_total as total, Stretch, overlap, demands_laid, supplies_laid, demand_total, plan_rows, reserved_in, Demand, Supply, demands_laid-append, HaveOther, none_of, zero_total, total-append, counted_plan, Act, KnownLot, Placed, orders, order_named, lot_known, is_urgent, is_normal, bookings_of, demand_of, item_postings, supplies, plan, reserved_of, IsHistory, urgent_plan, UrgentOrdersComeFirst}
 use Rattle.machine.proofs.histories.Bookings.{map_append}
 use Rattle.machine.proofs.histories.Orders.{orders_single, orders_numbered}
 use Rattle.machine.proofs.histories.Served.{AllClass, classes_told, urgent_number, others}

@@ -1,27 +1,5 @@
 -- What has to be shown of a command's conditions and change, and that a decision then is the machine's.
-use Rattle.std.proofs.Common.{◌≡◌, ◌+◌, ◌<◌, false, ◌++◌, List, [], ◌∷◌, refl, ap, sym, subst, ◌∙◌, arith}
-use Rattle.std.specs.Prelude.{ℤ, Option, Some, None, Result, Ok, Err, IsTrue, IfOk, codes, decimal, length, nat_le, if◌then◌else◌}
-use Rattle.std.proofs.lemmas.Bool.Decides.{nat_tests}
-use Rattle.commands.specs.Sound.{is_sound, is_sound_key}
-use Rattle.commands.specs.declared.limits.TheConstants.{ACTS_MAX}
-use Rattle.commands.specs.declared.key.Key.{Key}
-use Rattle.commands.specs.declared.refusal.Refusal.{Refusal}
-use Rattle.commands.specs.declared.refusal.Refusal.TheVariants.{ActsFull}
-use Rattle.commands.specs.declared.command.Command.{Command}
-use Rattle.commands.specs.declared.rows.MetaRow.{MetaRow}
-use Rattle.commands.specs.Replies.{reply_text}
-use Rattle.machine.specs.Acts.{Act, next_number}
-use Rattle.machine.specs.Standing.{today, shipments_so_far}
-use Rattle.machine.specs.Verdict.{Judgement, first_refusal, judgement, verdict}
-use Rattle.machine.specs.Once.{IsHistory, is_key_of, bearer}
-use Rattle.machine.specs.Replies.{reply, further_field}
-use Rattle.machine.specs.Tables.{tables_of, meta_row}
-use Rattle.rules.specs.Slices.{IsSlice, applied, tables_but_repeats, AreOnce, IsDecision, NamesChangedReservations}
-use Rattle.row_rules.specs.Seen.{capped, number_seen, plain_reply, meta_after}
-use Rattle.rules.specs.Made.{IsMade}
-use Rattle.row_rules.specs.declared.slice.Slice.{Slice}
-use Rattle.row_rules.specs.declared.slice.Change.{Change}
-use Rattle.row_rules.specs.declared.slice.RuleFault.{RuleFault}
+use Rattle.rules.proofs.Words.{◌≡◌, ◌+◌, ◌<◌, false, ◌++◌, List, [], ◌∷◌, refl, ap, sym, subst, ◌∙◌, arith, ℤ, Option, Some, None, Result, Ok, Err, IsTrue, IfOk, codes, decimal, length, nat_le, if◌then◌else◌, nat_tests, is_sound, is_sound_key, ACTS_MAX, Key, Refusal, ActsFull, Command, MetaRow, reply_text, Act, next_number, today, shipments_so_far, Judgement, first_refusal, judgement, verdict, IsHistory, is_key_of, bearer, reply, further_field, tables_of, meta_row, IsSlice, applied, tables_but_repeats, AreOnce, IsDecision, NamesChangedReservations, capped, number_seen, plain_reply, meta_after, IsMade, Slice, Change, RuleFault}
 
 -- the change is that of the accepted command
 pub record IsChange (first : ℤ) (act : Act) (acts : List Act) (change : Change) : Type 0 where

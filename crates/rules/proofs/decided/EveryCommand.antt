@@ -1,12 +1,5 @@
 -- Every command is judged as by the machine, and changes what it changes there.
-use Rattle.std.specs.Prelude.{Result}
-use Rattle.commands.specs.declared.key.Key.{Key}
-use Rattle.commands.specs.declared.command.Command.{Command}
-use Rattle.commands.specs.declared.command.Command.TheVariants.{Item, Bin, Receive, Move, Count, Adjust, Order, Cancel, Pick, Unpick, Ship, Hold, Release, Recall, OpenDay, Least, Urgent}
-use Rattle.row_rules.specs.declared.slice.Slice.{Slice}
-use Rattle.row_rules.specs.declared.slice.Change.{Change}
-use Rattle.row_rules.specs.declared.slice.RuleFault.{RuleFault}
-use Rattle.rules.specs.Commands.{command_seen, command_changes}
+use Rattle.rules.proofs.Words.{Result, Key, Command, Item, Bin, Receive, Move, Count, Adjust, Order, Cancel, Pick, Unpick, Ship, Hold, Release, Recall, OpenDay, Least, Urgent, Slice, Change, RuleFault, command_seen, command_changes}
 use Rattle.rules.proofs.decided.Decisions.{AreRight}
 use Rattle.rules.proofs.decided.SetupDecided.{items_right, bins_right}
 use Rattle.rules.proofs.decided.goods.ReceiveDecided.{receives_right}

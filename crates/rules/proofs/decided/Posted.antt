@@ -1,46 +1,6 @@
 -- An act that posts once at most, and makes nothing known but of lots: the rows put and dropped under the keys that its
 -- posting names, with the item planned anew, are the change of the act.
-use Rattle.std.proofs.Common.{◌≡◌, ℕ, ◌≤◌, Bool, true, false, ◌&&◌, List, [], ◌∷◌, ◌++◌, refl, ap, sym, subst, ◌∙◌, arith}
-use Rattle.std.specs.Prelude.{◌==◌, ◌||◌, if◌then◌else◌, length, ℤ, Option, Some, None, find, flat_map}
-use Rattle.std.specs.List.{list_any}
-use Rattle.values.specs.Values.{same_text}
-use Rattle.values.specs.declared.lot.LotId.{LotId}
-use Rattle.commands.specs.declared.limits.TheConstants.{UNITS_MAX}
-use Rattle.commands.specs.declared.command.Command.{Command}
-use Rattle.commands.specs.declared.rows.BinRow.{BinRow}
-use Rattle.commands.specs.declared.rows.LotRow.{LotRow}
-use Rattle.commands.specs.declared.rows.StockRow.{StockRow}
-use Rattle.commands.specs.declared.rows.OrderRow.{OrderRow}
-use Rattle.commands.specs.declared.rows.LineRow.{LineRow}
-use Rattle.commands.specs.declared.rows.StagedRow.{StagedRow}
-use Rattle.commands.specs.declared.rows.CardRow.{CardRow}
-use Rattle.machine.specs.Acts.{Act, next_number}
-use Rattle.machine.specs.Postings.{Place, Supplier, InBin, Stage, Shipped, WriteOff, Posting, is_lot, of_item}
-use Rattle.machine.specs.Standing.{has_line, least_expiry}
-use Rattle.machine.specs.Ledger.{posting, postings, postings_of}
-use Rattle.machine.specs.Planning.{in_bin, staged_of_lot, is_open}
-use Rattle.machine.specs.Cards.{card_lines}
-use Rattle.machine.specs.Replies.{reply}
-use Rattle.machine.specs.Once.{IsHistory}
-use Rattle.machine.specs.Tables.{tables_of, meta_row, if_any, bin_row, lot_row, stock_row, order_row, line_row, staged_row}
-use Rattle.machine.specs.Touched.{is_touched}
-use Rattle.machine.specs.KeyedRows.{AreRows, LotBin, OrderLot, same_cell, same_line, same_share, no_two}
-use Rattle.rules.specs.Slices.{IsSlice, applied, tables_but_repeats, changed, plans, names_bin, names_lot, in_bins, on_stages}
-use Rattle.row_rules.specs.Status.{earliest_seen}
-use Rattle.row_rules.specs.Plans.{is_share_of}
-use Rattle.row_rules.specs.declared.slice.Slice.{Slice}
-use Rattle.row_rules.specs.declared.slice.Change.{Change}
-use Rattle.row_rules.specs.declared.replanning.Replanned.{Replanned}
-use Rattle.shelves.specs.declared.posting.Posting.{Posting as PostingTold}
-use Rattle.shelves.specs.declared.posting.Place.{Place as PlaceTold}
-use Rattle.shelves.specs.declared.changes.Facts.{Facts}
-use Rattle.shelves.specs.Shelf.{Shelf, bins, stages, bin_at, stage_at, taken, brought, rows_posted, keys_posted, rows_put, rows_gone}
-use Rattle.shelves.specs.Told.{place_of, listed, keys_of, told_once}
-use Rattle.shelves.specs.PostedChanges.{stock_after, staged_after, replanned_by, changes_by}
-use Rattle.machine.proofs.Tests.{and_both, or_first, same_text_refl, same_text_turned, same_text_is, is_lot_is}
-use Rattle.machine.proofs.histories.Accepted.{room_for_acts}
-use Rattle.machine.proofs.histories.Cells.{Legal, holds}
-use Rattle.machine.proofs.histories.LegalHistories.{legal_history}
+use Rattle.rules.proofs.Words.{◌≡◌, ℕ, ◌≤◌, Bool, true, false, ◌&&◌, List, [], ◌∷◌, ◌++◌, refl, ap, sym, subst, ◌∙◌, arith, ◌==◌, ◌||◌, if◌then◌else◌, length, ℤ, Option, Some, None, find, flat_map, list_any, same_text, LotId, UNITS_MAX, Command, BinRow, LotRow, StockRow, OrderRow, LineRow, StagedRow, CardRow, Act, next_number, Place, Supplier, InBin, Stage, Shipped, WriteOff, Posting, is_lot, of_item, has_line, least_expiry, posting, postings, postings_of, in_bin, staged_of_lot, is_open, card_lines, reply, IsHistory, tables_of, meta_row, if_any, bin_row, lot_row, stock_row, order_row, line_row, staged_row, is_touched, AreRows, LotBin, OrderLot, same_cell, same_line, same_share, no_two, IsSlice, applied, tables_but_repeats, changed, plans, names_bin, names_lot, in_bins, on_stages, earliest_seen, is_share_of, Slice, Change, Replanned, PostingTold, PlaceTold, Facts, Shelf, bins, stages, bin_at, stage_at, taken, brought, rows_posted, keys_posted, rows_put, rows_gone, place_of, listed, keys_of, told_once, stock_after, staged_after, replanned_by, changes_by, and_both, or_first, same_text_refl, same_text_turned, same_text_is, is_lot_is, room_for_acts, Legal, holds, legal_history, Rows, rows_after_posting}
 use Rattle.rules.proofs.rows.AfterRows.{loosened}
 use Rattle.rules.proofs.rows.DemandsTold.{TellsDemands}
 use Rattle.rules.proofs.rows.SuppliesTold.{TellsSupplies, in_stock}
@@ -295,10 +255,10 @@ module _ (first : ℤ) (acts : List Act) (act : Act) (s : Slice) (slice : IsSlic
   touched : is_touched first act acts g ≡ true
   touched = is.touches g ∙ same_text_refl g
 
-  demands_before : TellsDemands first acts g s.rows.orders s.rows.lines s.rows.staged s.rows.urgents
+  demands_before : TellsDemands first acts g s.rows
   demands_before = slice_tells_demands first acts act s slice is.planned g touched
 
-  supplies_before : TellsSupplies first acts g s.rows.lots s.rows.recalls s.rows.stock s.rows.bins
+  supplies_before : TellsSupplies first acts g s.rows
   supplies_before = slice_tells_supplies first acts act s slice is.planned g touched
 
   pub stock_then : Tells bins are_bins (λ k. of_item g k.0) (λ k. in_bin first later k.1 k.0) (stock_after s told)
@@ -310,10 +270,13 @@ module _ (first : ℤ) (acts : List Act) (act : Act) (s : Slice) (slice : IsSlic
   stock_told : stock_after s told ≡ rows_posted bins news s.rows.stock
   stock_told = stock_is first acts act s slice next told posted (λ k. of_item g k.0) (bins_needed act.command g news is.own) supplies_before.stock staged unstaged (λ k. of_item g k.1) (stages_needed act.command g news is.own) demands_before.staged
 
-  -- The rows after the act tell the demands and supplies of the item
+  -- The rows after the act tell the demands and supplies of the item, these being its lot rows
 
-  demands_after : TellsDemands first later g s.rows.orders s.rows.lines staged s.rows.urgents
-  demands_after =
+  abbrev rows_posted_to : List LotRow → Rows
+  rows_posted_to lots = rows_after_posting s lots (stock_after s told) staged
+
+  demands_after : (lots : List LotRow) → TellsDemands first later g (rows_posted_to lots)
+  demands_after lots =
       let before = demands_before in
       let wanted : (o : List ℕ) → is_open first later o && has_line later o g ≡ true → is_open first acts o && has_line acts o g ≡ true = λ o e. (λ i. open_at first acts act posted.known posted.home o i && line_known first acts act posted.known posted.home o g i) ∙ e in
       record {
@@ -353,7 +316,7 @@ module _ (first : ℤ) (acts : List Act) (act : Act) (s : Slice) (slice : IsSlic
       λ i. two.0 i && or_first (names_lot act.command m || in_bins s.rows m) (on_stages s.rows m) few i
 
   module _ (lots : List LotRow) (lots_are : LotsAfter lots) where
-    supplies_after : TellsSupplies first later g lots s.rows.recalls (stock_after s told) s.rows.bins
+    supplies_after : TellsSupplies first later g (rows_posted_to lots)
     supplies_after = record {
       lots = loosened is_lot (λ (x : LotRow). x.lot) (is_wanted act.command s.rows g) (in_stock g (stock_after s told)) (λ m. true) (λ m. true) (lot_row later) (lot_row later) lots still_wanted (λ m e. e) (λ m. refl) lots_are;
       recalls = λ m e. supplies_before.recalls m e ∙ recall_at first acts act posted.known posted.home m;
@@ -365,10 +328,10 @@ module _ (first : ℤ) (acts : List Act) (act : Act) (s : Slice) (slice : IsSlic
     again = replanned_by s g lots (stock_after s told) staged
 
     are_named : AreNamed first act acts again.put again.dropped
-    are_named = replanned first acts act s slice is.planned next g only s.meta.day s.rows.least from s.rows.orders s.rows.lines staged s.rows.urgents lots s.rows.recalls s.rows.bins (stock_after s told) demands_after supplies_after
+    are_named = replanned first acts act s slice is.planned next g only s.meta.day (rows_posted_to lots) from (demands_after lots) supplies_after
 
     reserved_once : no_two is_share_of again.put ≡ true
-    reserved_once = replanned_once first acts act s slice is.planned next g only s.meta.day s.rows.least from s.rows.orders s.rows.lines staged s.rows.urgents lots s.rows.recalls s.rows.bins (stock_after s told) demands_after supplies_after
+    reserved_once = replanned_once first acts act s slice is.planned next g only s.meta.day (rows_posted_to lots) from (demands_after lots) supplies_after
 
     pub planned_changed : (facts : Facts) → AreFacts first acts act facts → IsChange first act acts (changes_by s told (stock_after s told) staged again facts)
     planned_changed facts are =

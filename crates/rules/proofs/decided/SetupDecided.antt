@@ -1,31 +1,6 @@
 -- New items and bins are decided as the machine decides them.
-use Rattle.std.proofs.Common.{◌≡◌, ℕ, List, [], ◌∷◌, refl, ap, sym, ◌∙◌}
-use Rattle.std.specs.Prelude.{◌||◌, ℤ, None, Result, find}
-use Rattle.values.specs.Values.{same_text}
-use Rattle.commands.specs.declared.key.Key.{Key}
-use Rattle.commands.specs.declared.refusal.Refusal.TheVariants.{ItemExists, BinExists}
-use Rattle.commands.specs.declared.command.NewItem.{NewItem}
-use Rattle.commands.specs.declared.command.NewBin.{NewBin}
-use Rattle.commands.specs.declared.command.Command.TheVariants.{Item, Bin}
-use Rattle.commands.specs.declared.rows.ItemRow.{ItemRow}
-use Rattle.commands.specs.declared.rows.LeastRow.{LeastRow}
-use Rattle.commands.specs.declared.rows.BinRow.{BinRow}
-use Rattle.machine.specs.Acts.{Act}
-use Rattle.machine.specs.Standing.{items, bins, least_days}
-use Rattle.machine.specs.Verdict.{first_refusal, judgement, verdict}
-use Rattle.machine.specs.Planning.{reserved}
-use Rattle.machine.specs.Once.{IsHistory}
-use Rattle.machine.specs.Tables.{tables_of, meta_row}
-use Rattle.rules.specs.Slices.{IsSlice, applied, tables_but_repeats}
-use Rattle.row_rules.specs.Seen.{none_put, none_dropped}
-use Rattle.goods_rules.specs.DecidedSetup.{item_seen, item_changes, bin_seen, bin_changes}
-use Rattle.row_rules.specs.declared.slice.Slice.{Slice}
-use Rattle.row_rules.specs.declared.slice.Change.{Change}
-use Rattle.row_rules.specs.declared.slice.RuleFault.{RuleFault}
-use Rattle.machine.proofs.Tests.{same_text_refl}
-use Rattle.machine.proofs.histories.Accepted.{room_for_acts, item_accepted}
-use Rattle.machine.proofs.histories.LeastDays.{unknown_item_asks_none}
-use Rattle.machine.proofs.histories.OtherItems.{other_items_are_left_alone}
+use Rattle.rules.proofs.Words.{◌≡◌, ℕ, List, [], ◌∷◌, refl, ap, sym, ◌∙◌, ◌||◌, ℤ, None, Result, find, same_text, Key, ItemExists, BinExists, NewItem, NewBin, Item, Bin, ItemRow, LeastRow, BinRow, Act, items, least_days, first_refusal, judgement, verdict, reserved, IsHistory, tables_of, meta_row, IsSlice, applied, tables_but_repeats, none_put, none_dropped, item_seen, item_changes, bin_seen, bin_changes, Slice, Change, RuleFault, same_text_refl, room_for_acts, item_accepted, unknown_item_asks_none, other_items_are_left_alone}
+use Rattle.machine.specs.Standing.{bins}
 use Rattle.rules.proofs.rows.TableSteps.{same_tables, AreNamed, nothing_named, names_changed, reserved_changed, put_found}
 use Rattle.rules.proofs.decided.Decisions.{AreRight, IsChange, plain_same, meta_same}
 use Rattle.rules.proofs.rows.SliceTells.{item_told, bin_told}

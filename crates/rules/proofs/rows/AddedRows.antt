@@ -1,10 +1,5 @@
 -- Rows with several more whose keys are new are the rows of the look-up that has these.
-use Rattle.std.proofs.Common.{◌≡◌, Bool, true, false, not, List, [], ◌∷◌, ◌++◌, refl, ◌∙◌}
-use Rattle.std.specs.Prelude.{◌||◌, if◌then◌else◌, Option, Some, None, find}
-use Rattle.std.specs.List.{list_any}
-use Rattle.machine.specs.KeyedRows.{AreRows, no_two}
-use Rattle.rules.specs.Slices.{unless_put}
-use Rattle.machine.proofs.Tests.{and_both, not_true}
+use Rattle.rules.proofs.Words.{◌≡◌, Bool, true, false, not, List, [], ◌∷◌, ◌++◌, refl, ◌∙◌, ◌||◌, if◌then◌else◌, Option, Some, None, find, list_any, AreRows, no_two, unless_put, and_both, not_true}
 use Rattle.rules.proofs.rows.AfterRows.{loosened, rows_added}
 
 -- Look-ups in one list after another
@@ -18,13 +13,6 @@ find_appended test [] ys = refl
 find_appended test (x ∷ xs) ys = elim (test x) as (λ b. (if b then Some x else find test (xs ++ ys)) ≡ unless_put (if b then Some x else find test xs) false (find test ys)) [
   | true ↦ refl
   | false ↦ find_appended test xs ys
-]
-
-pub any_appended : {X : Type 0} (test : X → Bool) (xs ys : List X) → list_any test (xs ++ ys) ≡ list_any test xs || list_any test ys
-any_appended test [] ys = refl
-any_appended test (x ∷ xs) ys = elim (test x) as (λ b. b || list_any test (xs ++ ys) ≡ (b || list_any test xs) || list_any test ys) [
-  | true ↦ refl
-  | false ↦ any_appended test xs ys
 ]
 
 pub not_found : {X : Type 0} (test : X → Bool) (xs : List X) → list_any test xs ≡ false → find test xs ≡ None

@@ -1,10 +1,5 @@
 -- Rows with one more in the place of that under its key are the rows of the look-up that has it.
-use Rattle.std.proofs.Common.{◌≡◌, Bool, true, false, ◌&&◌, not, List, [], ◌∷◌, refl, ap, sym, subst, ◌∙◌}
-use Rattle.std.specs.Prelude.{◌||◌, if◌then◌else◌, Option, Some, None, find, filter}
-use Rattle.std.specs.List.{list_any}
-use Rattle.machine.specs.KeyedRows.{AreRows, AreOwn, no_two}
-use Rattle.rules.specs.Slices.{unless_put}
-use Rattle.machine.proofs.Tests.{and_both, not_true}
+use Rattle.rules.proofs.Words.{◌≡◌, Bool, true, false, ◌&&◌, not, List, [], ◌∷◌, refl, ap, sym, subst, ◌∙◌, ◌||◌, if◌then◌else◌, Option, Some, None, find, filter, list_any, AreRows, AreOwn, no_two, unless_put, and_both, not_true}
 
 -- fewer keys are needed, and more are allowed
 pub loosened : {K R : Type 0} (same : K → K → Bool) (key : R → K) (needed fewer allowed more : K → Bool) (row later : K → Option R) (rows : List R)

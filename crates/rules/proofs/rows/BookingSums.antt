@@ -1,12 +1,5 @@
 -- Sums over the bookings of an item, order by order: those of urgent orders and those of the others are all.
-use Rattle.std.proofs.Common.{◌≡◌, ℕ, ◌+◌, Bool, true, false, not, List, [], ◌∷◌, ◌++◌, refl, ap, ◌∙◌, arith}
-use Rattle.std.specs.Prelude.{if◌then◌else◌, filter, flat_map, reverse}
-use Rattle.std.proofs.lemmas.List.{reverse-append}
-use Rattle.commands.specs.Lists.{total}
-use Rattle.machine.specs.Acts.{Act}
-use Rattle.machine.specs.Standing.{orders}
-use Rattle.machine.specs.Planning.{Booking, bookings, lines_of_item, is_urgent, is_normal}
-use Rattle.machine.proofs.histories.Bookings.{total_flat}
+use Rattle.rules.proofs.Words.{◌≡◌, ℕ, ◌+◌, Bool, true, false, not, List, [], ◌∷◌, ◌++◌, refl, ap, ◌∙◌, arith, if◌then◌else◌, filter, flat_map, reverse, reverse-append, total, Act, orders, Booking, bookings, lines_of_item, is_urgent, is_normal, total_flat}
 
 pub total_append : {X : Type 0} (f : X → ℕ) (xs ys : List X) → total f (xs ++ ys) ≡ total f xs + total f ys
 total_append f [] ys = omega arith

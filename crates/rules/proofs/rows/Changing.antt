@@ -1,11 +1,6 @@
 -- The rows that are put and dropped under the keys that postings name turn each look-up before them into the one after them.
-use Rattle.std.proofs.Common.{◌≡◌, ℕ, Bool, true, false, ◌&&◌, not, List, [], ◌∷◌, refl, ap, sym, ◌∙◌}
-use Rattle.std.specs.Prelude.{◌==◌, ◌||◌, if◌then◌else◌, find, Option, Some, None, is_some}
-use Rattle.std.specs.List.{list_any, cons_option}
-use Rattle.machine.specs.Tables.{if_any}
-use Rattle.rules.specs.Slices.{changed, unless_put}
-use Rattle.rules.proofs.rows.AddedRows.{find_appended, any_appended}
-use Rattle.shelves.specs.Shelf.{Shelf, units_at, row_put, rows_put, row_gone, rows_gone}
+use Rattle.rules.proofs.Words.{◌≡◌, ℕ, Bool, true, false, ◌&&◌, not, List, [], ◌∷◌, refl, ap, sym, ◌∙◌, ◌==◌, ◌||◌, if◌then◌else◌, find, Option, Some, None, is_some, list_any, cons_option, list_any-append, if_any, changed, unless_put, Shelf, units_at, row_put, rows_put, row_gone, rows_gone}
+use Rattle.rules.proofs.rows.AddedRows.{find_appended}
 use Rattle.rules.proofs.rows.Following.{IsShelf, look, Tells, units_told, AllNeeded}
 
 either_put : {R : Type 0} (x : Option R) (b : Bool) → unless_put x false (if b then x else None) ≡ x
@@ -89,7 +84,7 @@ module _ {K R : Type 0} (shelf : Shelf K R) (is : IsShelf shelf) (needed : K →
       let e : n ≡ h k = units_told shelf is needed h after will k need.0 in
       let found : list_any (at m) (row_gone shelf k before after) ≡ list_any (at m) (if h k == 0 then cons_option (old k) [] else []) =
       (λ i. list_any (at m) (if e i == 0 then cons_option (was.found k need.0 i) [] else [])) in
-      any_appended (at m) (row_gone shelf k before after) (rows_gone shelf ks before after)
+      list_any-append (at m) (row_gone shelf k before after) (rows_gone shelf ks before after)
       ∙ (λ i. found i || gone_is m ks need.1 i)
       ∙ elim (shelf.same m k) as (λ t. shelf.same m k ≡ t → list_any (at m) (if h k == 0 then cons_option (old k) [] else []) || (named m ks && gone m) ≡ (t || named m ks) && gone m) [
         | true ↦ λ t. ap (λ x. x || (named m ks && gone m)) (gone_here m k (h k) (f k) t ∙ ap gone (sym (is.same_is m k t))) ∙ once_more (named m ks) (gone m)

@@ -1,17 +1,5 @@
 -- The rows of urgent orders tell of which class an order is.
-use Rattle.std.proofs.Common.{◌≡◌, ℕ, true, false, List, [], ◌∷◌, refl, ap, sym, subst, ◌∙◌}
-use Rattle.std.specs.Prelude.{if◌then◌else◌, Bool, Some, None, find, is_some}
-use Rattle.std.specs.List.{list_any, AllByRecursion}
-use Rattle.values.specs.Values.{same_text}
-use Rattle.commands.specs.declared.rows.UrgentRow.{UrgentRow}
-use Rattle.machine.specs.Acts.{Act}
-use Rattle.machine.specs.Standing.{Placed, orders, order_named}
-use Rattle.machine.specs.Planning.{is_urgent}
-use Rattle.machine.specs.Tables.{if_urgent, urgent_row}
-use Rattle.machine.proofs.Tests.{some_one}
-use Rattle.machine.proofs.Apart.{any_found}
-use Rattle.machine.proofs.histories.Orders.{orders_numbered}
-use Rattle.machine.proofs.histories.Served.{urgent_number, classes_told}
+use Rattle.rules.proofs.Words.{◌≡◌, ℕ, true, false, List, [], ◌∷◌, refl, ap, sym, subst, ◌∙◌, if◌then◌else◌, Bool, Some, None, find, is_some, list_any, AllByRecursion, same_text, UrgentRow, Act, Placed, orders, order_named, is_urgent, if_urgent, urgent_row, some_one, any_found, orders_numbered, urgent_number, classes_told}
 
 -- what all have, that which is found has
 found_has : {X : Type 0} (P : X → Type 0) (test : X → Bool) (xs : List X) → AllByRecursion P xs → (x : X) → find test xs ≡ Some x → P x

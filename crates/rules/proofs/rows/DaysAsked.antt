@@ -1,19 +1,5 @@
 -- What the slice of any command but a shipment tells of the days that an item asks for, and so from which expiry on its lots ship.
-use Rattle.std.proofs.Common.{◌≡◌, ℕ, true, ◌&&◌, not, List, refl, ap, sym, ◌∙◌}
-use Rattle.std.specs.Prelude.{find, Option, Some, None, option_map, is_some, ℤ, pos, ◌+ℤ◌}
-use Rattle.values.specs.Values.{same_text}
-use Rattle.commands.specs.declared.command.NewItem.{NewItem}
-use Rattle.commands.specs.declared.rows.LeastRow.{LeastRow}
-use Rattle.machine.specs.Acts.{Act}
-use Rattle.machine.specs.Standing.{items, item_named, least_days, least_expiry}
-use Rattle.machine.specs.Once.{IsHistory}
-use Rattle.machine.specs.Tables.{tables_of, least_row}
-use Rattle.machine.specs.Touched.{is_touched}
-use Rattle.rules.specs.Slices.{IsSlice, ships}
-use Rattle.row_rules.specs.Status.{days_in, least_seen, earliest_seen}
-use Rattle.row_rules.specs.declared.slice.Slice.{Slice}
-use Rattle.machine.proofs.Tests.{same_text_is}
-use Rattle.machine.proofs.histories.LeastDays.{unknown_item_asks_none}
+use Rattle.rules.proofs.Words.{◌≡◌, ℕ, true, ◌&&◌, not, List, refl, ap, sym, ◌∙◌, find, Option, Some, None, option_map, is_some, ℤ, pos, ◌+ℤ◌, same_text, NewItem, LeastRow, Act, items, item_named, least_days, least_expiry, IsHistory, tables_of, least_row, is_touched, IsSlice, ships, days_in, least_seen, earliest_seen, Slice, same_text_is, unknown_item_asks_none}
 use Rattle.rules.proofs.rows.FoundRows.{found_passes}
 use Rattle.rules.proofs.decided.Decisions.{day_seen}
 

@@ -1,44 +1,5 @@
 -- The order rows, lines and staged rows of an item tell its demands.
-use Rattle.std.proofs.Common.{◌≡◌, ℕ, ◌+◌, ◌-◌, ◌≤◌, ◌<◌, Bool, true, false, ◌&&◌, not, List, [], ◌∷◌, refl, ap, sym, subst, ◌∙◌, arith, eq-eqb}
-use Rattle.std.specs.Prelude.{◌==◌, nat_lt, if◌then◌else◌, ℤ, Option, Some, None, find, filter, map, option_map}
-use Rattle.std.specs.List.{list_any, AllByRecursion}
-use Rattle.std.proofs.lemmas.Bool.{eqb-true}
-use Rattle.std.proofs.lemmas.List.Elements.{filter-append}
-use borrow.Author.Tests.{ltb-false, lt-ltb}
-use Rattle.values.specs.Values.{same_text}
-use Rattle.values.specs.declared.lot.LotId.{LotId}
-use Rattle.commands.specs.Lists.{total}
-use Rattle.commands.specs.declared.command.OrderLine.{OrderLine}
-use Rattle.commands.specs.declared.rows.OrderState.TheVariants.{Open, Done, Cancelled}
-use Rattle.commands.specs.declared.rows.OrderRow.{OrderRow}
-use Rattle.commands.specs.declared.rows.UrgentRow.{UrgentRow}
-use Rattle.commands.specs.declared.rows.LineRow.{LineRow}
-use Rattle.commands.specs.declared.rows.StagedRow.{StagedRow}
-use Rattle.plan.specs.Lists.{total as plan_total}
-use Rattle.plan.specs.declared.Demand.{Demand}
-use Rattle.plan.proofs.Nothing.{wanted}
-use Rattle.machine.specs.Acts.{Act}
-use Rattle.machine.specs.Postings.{Posting, Place, Supplier, InBin, Stage, Shipped, WriteOff, is_stage, of_item, in_house}
-use Rattle.machine.specs.Standing.{Placed, orders, order_named, lines_placed, has_line, is_cancelled}
-use Rattle.machine.specs.Ledger.{postings}
-use Rattle.machine.specs.Planning.{Booking, booking_of, lines_of_item, need, demands, item_postings, staged, shipped, shipped_of, is_open, is_open_state, is_shipped_in_full, order_state}
-use Rattle.machine.specs.Once.{IsHistory}
-use Rattle.machine.specs.Tables.{order_row, urgent_row, line_row, staged_row}
-use Rattle.machine.specs.KeyedRows.{AreRows, AreOwn, no_two, same_line, same_share}
-use Rattle.machine.specs.Verdict.{names_item_twice}
-use Rattle.row_rules.specs.Seen.{capped}
-use Rattle.row_rules.specs.Plans.{inserted, staged_seen, line_need, need_seen, demand_seen, is_earlier, is_urgent_seen, is_normal_seen, demands_by_number, demands_seen}
-use Rattle.machine.proofs.Numbers.{unequal_turned, later_than, nothing_if}
-use Rattle.machine.proofs.Tests.{and_both, or_none, not_true, same_text_is, same_text_refl, same_text_turned}
-use Rattle.machine.proofs.Apart.{AllFound}
-use Rattle.machine.proofs.histories.Cells.{Cells, holds, holds_split}
-use Rattle.machine.proofs.histories.ItemBalances.{balance-of_item}
-use Rattle.machine.proofs.histories.LegalHistories.{legal_history}
-use Rattle.machine.proofs.histories.Orders.{AllSingle, NoNeed, same_order, orders_apart, orders_found, orders_single, closed_needs_none, act_names_order}
-use Rattle.machine.proofs.histories.Bookings.{RisingDemands, AfterDemands, wanted_by, none_more}
-use Rattle.machine.proofs.histories.Served.{AreServed, AllClass, urgent_number, served_in_class, served_both, demands_told, same_wanted}
-use Rattle.machine.proofs.histories.UnitsLimit.{units_within_limit}
-use Rattle.machine.proofs.histories.PlaceRows.{staged_holds, stage_cells}
+use Rattle.rules.proofs.Words.{◌≡◌, ℕ, ◌+◌, ◌-◌, ◌≤◌, ◌<◌, Bool, true, false, ◌&&◌, not, List, [], ◌∷◌, refl, ap, sym, subst, ◌∙◌, arith, eq-eqb, ◌==◌, nat_lt, if◌then◌else◌, ℤ, Option, Some, None, find, filter, map, option_map, list_any, AllByRecursion, eqb-true, filter-append, ltb-false, lt-ltb, same_text, LotId, total, OrderLine, Open, Done, Cancelled, OrderRow, UrgentRow, LineRow, StagedRow, plan_total, Demand, wanted, Act, Posting, Place, Supplier, InBin, Stage, Shipped, WriteOff, is_stage, of_item, in_house, Placed, orders, order_named, lines_placed, has_line, is_cancelled, postings, Booking, booking_of, lines_of_item, need, demands, item_postings, staged, shipped, shipped_of, is_open, is_open_state, is_shipped_in_full, order_state, IsHistory, order_row, urgent_row, line_row, staged_row, AreRows, AreOwn, no_two, same_line, same_share, names_item_twice, capped, inserted, staged_seen, line_need, need_seen, demand_seen, is_earlier, is_urgent_seen, is_normal_seen, demands_by_number, unequal_turned, later_than, nothing_if, and_both, or_none, not_true, same_text_is, same_text_refl, same_text_turned, AllFound, Cells, holds, holds_split, balance-of_item, legal_history, AllSingle, NoNeed, same_order, orders_apart, orders_found, orders_single, closed_needs_none, act_names_order, RisingDemands, AfterDemands, wanted_by, none_more, AreServed, AllClass, urgent_number, served_in_class, served_both, demands_told, same_wanted, units_within_limit, staged_holds, stage_cells, Rows, demands_in}
 use Rattle.rules.proofs.rows.Telling.{rows_tell, some_of_mapped, found_key}
 use Rattle.rules.proofs.rows.Ordering.{AllBehind, AreRising, AllOrdered, AreOrdered, all_inserted, rising_kept, rising_inserted, total_inserted, total_map}
 use Rattle.rules.proofs.rows.KeptRows.{kept_rows}
@@ -50,11 +11,11 @@ same_total f [] = refl
 same_total f (x ∷ xs) = ap (λ n. f x + n) (same_total f xs)
 
 -- the rows of the item, and those of the urgent orders among its orders
-pub record TellsDemands (first : ℤ) (acts : List Act) (g : List ℕ) (order_rows : List OrderRow) (line_rows : List LineRow) (staged_rows : List StagedRow) (urgent_rows : List UrgentRow) : Type 0 where
-  pub orders : AreRows same_text (λ (r : OrderRow). r.order) (λ o. is_open first acts o && has_line acts o g) (λ o. true) (order_row first acts) order_rows
-  pub lines : AreRows same_line (λ (r : LineRow). (r.order, r.gtin)) (λ k. is_open first acts k.0 && same_text g k.1) (λ k. true) (λ k. line_row first acts k.0 k.1) line_rows
-  pub staged : AreRows same_share (λ (r : StagedRow). (r.order, r.lot)) (λ k. of_item g k.1) (λ k. true) (λ k. staged_row first acts k.0 k.1) staged_rows
-  pub urgents : (o : List ℕ) → is_open first acts o && has_line acts o g ≡ true → find (λ (r : UrgentRow). same_text o r.order) urgent_rows ≡ urgent_row acts o
+pub record TellsDemands (first : ℤ) (acts : List Act) (g : List ℕ) (read : Rows) : Type 0 where
+  pub orders : AreRows same_text (λ (r : OrderRow). r.order) (λ o. is_open first acts o && has_line acts o g) (λ o. true) (order_row first acts) read.orders
+  pub lines : AreRows same_line (λ (r : LineRow). (r.order, r.gtin)) (λ k. is_open first acts k.0 && same_text g k.1) (λ k. true) (λ k. line_row first acts k.0 k.1) read.lines
+  pub staged : AreRows same_share (λ (r : StagedRow). (r.order, r.lot)) (λ k. of_item g k.1) (λ k. true) (λ k. staged_row first acts k.0 k.1) read.staged
+  pub urgents : (o : List ℕ) → is_open first acts o && has_line acts o g ≡ true → find (λ (r : UrgentRow). same_text o r.order) read.urgents ≡ urgent_row acts o
 
 -- what the bookings want under a number
 abbrev pub wants : List Act → List Posting → ℕ → List Booking → ℕ
@@ -171,8 +132,7 @@ module _ (first : ℤ) (acts : List Act) (history : IsHistory first acts) (g : L
       let house = holds_split (postings first acts) legal cells (λ p l. in_house p && of_item g l) (record { supplier = λ m. refl; write_off = λ m. refl }) (record { supplier = λ m. refl; write_off = λ m. refl }) (in_the_house o) in
       omega (arith, all, told, house, units_within_limit first acts history g)
 
-module _ (first : ℤ) (acts : List Act) (history : IsHistory first acts) (g : List ℕ) (order_rows : List OrderRow) (line_rows : List LineRow) (staged_rows : List StagedRow) (urgent_rows : List UrgentRow)
-    (tells : TellsDemands first acts g order_rows line_rows staged_rows urgent_rows) where
+module _ (first : ℤ) (acts : List Act) (history : IsHistory first acts) (g : List ℕ) (read : Rows) (tells : TellsDemands first acts g read) where
   abbrev ips : List Posting
   ips = item_postings first acts g
 
@@ -188,43 +148,43 @@ module _ (first : ℤ) (acts : List Act) (history : IsHistory first acts) (g : L
   order_wants n o = wanted_of n (order_named acts o)
 
   pub line_told : (p : Placed) → order_named acts p.order ≡ Some p → is_open first acts p.order ≡ true
-      → find (λ l. same_text p.order l.order && same_text g l.gtin) line_rows ≡ option_map (λ l. record { order = p.order; gtin = g; ordered = l.qty; shipped = shipped_of first acts p.order g }) (find (λ l. same_text g l.gtin) p.lines)
+      → find (λ l. same_text p.order l.order && same_text g l.gtin) read.lines ≡ option_map (λ l. record { order = p.order; gtin = g; ordered = l.qty; shipped = shipped_of first acts p.order g }) (find (λ l. same_text g l.gtin) p.lines)
   line_told p named e =
       tells.lines.found (p.order, g) (λ i. (e i) && same_text_refl g i)
       ∙ ap (λ q. option_map (λ (l : OrderLine). record { order = p.order; gtin = g; ordered = l.qty; shipped = shipped_of first acts p.order g }) (find (λ l. same_text g l.gtin) (lines_placed q))) named
 
   by_line : (n : ℕ) (p : Placed) → is_open first acts p.order ≡ true → (x : Option OrderLine) → find (λ l. same_text g l.gtin) p.lines ≡ x
-      → (if n == p.act then line_need (option_map (λ l. record { order = p.order; gtin = g; ordered = l.qty; shipped = shipped_of first acts p.order g }) x) (capped (staged_seen g p.order staged_rows)) else 0)
+      → (if n == p.act then line_need (option_map (λ l. record { order = p.order; gtin = g; ordered = l.qty; shipped = shipped_of first acts p.order g }) x) (capped (staged_seen g p.order read.staged)) else 0)
       ≡ wants acts ips n (map (booking_of p) (listed x))
   by_line n p e None f = nothing_if (n == p.act)
   by_line n p e (Some l) f =
       let own : g ≡ l.gtin = found_key same_text same_text_is same_text_turned (λ (m : OrderLine). m.gtin) g p.lines l f in
       let uncancelled : is_cancelled acts p.order ≡ false = open_is_uncancelled (is_cancelled acts p.order) (is_shipped_in_full first acts p.order) e in
       let one : need acts ips (booking_of p l) ≡ l.qty - staged ips p.order l.gtin - shipped ips p.order l.gtin = ap (λ b. if b then 0 else l.qty - staged ips p.order l.gtin - shipped ips p.order l.gtin) uncancelled in
-      let same : l.qty - capped (staged_seen g p.order staged_rows) - shipped_of first acts p.order g ≡ need acts ips (booking_of p l) =
-      ap (λ n. l.qty - n - shipped_of first acts p.order g) (staged_same first acts history g staged_rows tells.staged p.order) ∙ (λ i. l.qty - staged ips p.order (own i) - shipped ips p.order (own i)) ∙ sym one in
+      let same : l.qty - capped (staged_seen g p.order read.staged) - shipped_of first acts p.order g ≡ need acts ips (booking_of p l) =
+      ap (λ n. l.qty - n - shipped_of first acts p.order g) (staged_same first acts history g read.staged tells.staged p.order) ∙ (λ i. l.qty - staged ips p.order (own i) - shipped ips p.order (own i)) ∙ sym one in
       let end : (if n == p.act then need acts ips (booking_of p l) else 0) ≡ wants acts ips n (map (booking_of p) (listed (Some l))) = omega arith in
       ap (λ q. if n == p.act then q else 0) same ∙ end
 
-  at_placed : (n : ℕ) (p : Placed) → order_named acts p.order ≡ Some p → (if n == p.act then need_seen g line_rows staged_rows (show p) else 0) ≡ order_wants n p.order
+  at_placed : (n : ℕ) (p : Placed) → order_named acts p.order ≡ Some p → (if n == p.act then need_seen g read.lines read.staged (show p) else 0) ≡ order_wants n p.order
   at_placed n p named =
       elim (is_open first acts p.order) as (λ b. is_open first acts p.order ≡ b
-      → (if n == p.act then (if b then line_need (find (λ l. same_text p.order l.order && same_text g l.gtin) line_rows) (capped (staged_seen g p.order staged_rows)) else 0) else 0) ≡ wants acts ips n (lines_of_item g p)) [
+      → (if n == p.act then (if b then line_need (find (λ l. same_text p.order l.order && same_text g l.gtin) read.lines) (capped (staged_seen g p.order read.staged)) else 0) else 0) ≡ wants acts ips n (lines_of_item g p)) [
         | true ↦ λ e.
-            ap (λ x. if n == p.act then line_need x (capped (staged_seen g p.order staged_rows)) else 0) (line_told p named e) ∙ by_line n p e (find (λ l. same_text g l.gtin) p.lines) refl
+            ap (λ x. if n == p.act then line_need x (capped (staged_seen g p.order read.staged)) else 0) (line_told p named e) ∙ by_line n p e (find (λ l. same_text g l.gtin) p.lines) refl
             ∙ ap (λ ls. wants acts ips n (map (booking_of p) ls)) (sym (line_found g p.lines (single_of (orders acts) [] (orders_single first acts history) p.order p named)))
         | false ↦ λ e. nothing_if (n == p.act) ∙ sym (no_need_wants acts ips n (lines_of_item g p) (closed_needs_none first acts g p named e))
       ] refl
       ∙ sym (ap (wanted_of n) named)
 
-  row_told : (n : ℕ) (r : OrderRow) → order_row first acts r.order ≡ Some r → (if n == r.act then need_seen g line_rows staged_rows r else 0) ≡ order_wants n r.order
+  row_told : (n : ℕ) (r : OrderRow) → order_row first acts r.order ≡ Some r → (if n == r.act then need_seen g read.lines read.staged r else 0) ≡ order_wants n r.order
   row_told n r e =
       let m = some_of_mapped show (order_named acts r.order) r e in
-      let P : OrderRow → Type 0 = λ x. (if n == x.act then need_seen g line_rows staged_rows x else 0) ≡ order_wants n x.order in
+      let P : OrderRow → Type 0 = λ x. (if n == x.act then need_seen g read.lines read.staged x else 0) ≡ order_wants n x.order in
       subst P m.2 (at_placed n m.0 (ap (λ (x : OrderRow). order_named acts x.order) m.2 ∙ m.1))
 
   rows_told : (n : ℕ) (rows : List OrderRow) → AreOwn (λ (r : OrderRow). r.order) (λ o. true) (order_row first acts) rows
-      → total (λ (r : OrderRow). if n == r.act then need_seen g line_rows staged_rows r else 0) rows ≡ total (λ (r : OrderRow). order_wants n r.order) rows
+      → total (λ (r : OrderRow). if n == r.act then need_seen g read.lines read.staged r else 0) rows ≡ total (λ (r : OrderRow). order_wants n r.order) rows
   rows_told n [] h = refl
   rows_told n (r ∷ rs) h = λ i. row_told n r h.1 i + rows_told n rs h.2 i
 
@@ -244,7 +204,7 @@ module _ (first : ℤ) (acts : List Act) (history : IsHistory first acts) (g : L
   each_named n (p ∷ ps) h = λ i. wanted_of n (h.0 i) + each_named n ps h.1 i
 
   abbrev one : OrderRow → Demand
-  one = demand_seen g line_rows staged_rows
+  one = demand_seen g read.lines read.staged
 
   -- if it wants something, it is of the class
   abbrev IsOf : Bool → Demand → Type 0
@@ -257,12 +217,12 @@ module _ (first : ℤ) (acts : List Act) (history : IsHistory first acts) (g : L
     | false ↦ λ e. wanted_class c ds h.1
   ] refl
 
-  told : (n : ℕ) → wanted_by n (demands_seen g line_rows staged_rows urgent_rows order_rows) ≡ wanted_by n (demands first acts g)
+  told : (n : ℕ) → wanted_by n (demands_in g read) ≡ wanted_by n (demands first acts g)
   told n =
       let f : Demand → ℕ = λ d. if n == d.booking then d.need else 0 in
-      let ones = filter (is_urgent_seen urgent_rows) order_rows in
-      let others = filter (is_normal_seen urgent_rows) order_rows in
-      let both : total f (demands_seen g line_rows staged_rows urgent_rows order_rows) ≡ total (λ r. f (one r)) order_rows =
+      let ones = filter (is_urgent_seen read.urgents) read.orders in
+      let others = filter (is_normal_seen read.urgents) read.orders in
+      let both : total f (demands_in g read) ≡ total (λ r. f (one r)) read.orders =
       omega (
         arith,
         total_append f (inserted is_earlier [] (map one ones)) (inserted is_earlier [] (map one others)),
@@ -270,12 +230,12 @@ module _ (first : ℤ) (acts : List Act) (history : IsHistory first acts) (g : L
         total_inserted is_earlier f [] (map one others),
         total_map f one ones,
         total_map f one others,
-        total_parted (λ r. f (one r)) (is_urgent_seen urgent_rows) order_rows,
+        total_parted (λ r. f (one r)) (is_urgent_seen read.urgents) read.orders,
       ) in
-      same_total f (demands_seen g line_rows staged_rows urgent_rows order_rows) ∙ both
-      ∙ rows_told n order_rows tells.orders.own
+      same_total f (demands_in g read) ∙ both
+      ∙ rows_told n read.orders tells.orders.own
       ∙ rows_tell same_text same_text_is same_text_turned (λ (p : Placed). p.order) (λ (r : OrderRow). r.order) show (orders acts) (orders_apart first acts history) (orders_found first acts history)
-      (order_wants n) (λ o. is_open first acts o && has_line acts o g) (λ o. true) order_rows tells.orders.found tells.orders.own tells.orders.once (none_if_not_needed n)
+      (order_wants n) (λ o. is_open first acts o && has_line acts o g) (λ o. true) read.orders tells.orders.found tells.orders.own tells.orders.once (none_if_not_needed n)
       ∙ each_named n (orders acts) (orders_found first acts history) ∙ sym (demands_told first acts g n)
 
   -- numbers of orders are apart
@@ -294,14 +254,14 @@ module _ (first : ℤ) (acts : List Act) (history : IsHistory first acts) (g : L
       ] refl
 
   all_ordered : (r : OrderRow) (rows : List OrderRow) → order_row first acts r.order ≡ Some r → AreOwn (λ (r : OrderRow). r.order) (λ o. true) (order_row first acts) rows
-      → list_any (λ (s : OrderRow). same_text r.order s.order) rows ≡ false → AllOrdered is_earlier (demand_seen g line_rows staged_rows r) (map (demand_seen g line_rows staged_rows) rows)
+      → list_any (λ (s : OrderRow). same_text r.order s.order) rows ≡ false → AllOrdered is_earlier (demand_seen g read.lines read.staged r) (map (demand_seen g read.lines read.staged) rows)
   all_ordered r [] e h f = tt
   all_ordered r (s ∷ ss) e h f =
       let two = or_none (same_text r.order s.order) (list_any (λ (s : OrderRow). same_text r.order s.order) ss) f in
       (either_way r.act s.act (numbers_apart r s e h.1 two.0), all_ordered r ss e h.2 two.1)
 
   are_ordered : (rows : List OrderRow) → AreOwn (λ (r : OrderRow). r.order) (λ o. true) (order_row first acts) rows → no_two (λ (r s : OrderRow). same_text r.order s.order) rows ≡ true
-      → AreOrdered is_earlier (map (demand_seen g line_rows staged_rows) rows)
+      → AreOrdered is_earlier (map (demand_seen g read.lines read.staged) rows)
   are_ordered [] h e = tt
   are_ordered (r ∷ rs) h e =
       let two = and_both (not (list_any (λ (s : OrderRow). same_text r.order s.order) rs)) (no_two (λ (r s : OrderRow). same_text r.order s.order) rs) e in
@@ -310,14 +270,14 @@ module _ (first : ℤ) (acts : List Act) (history : IsHistory first acts) (g : L
   -- Each order that wants something is of the class that the rows of urgent orders tell
 
   abbrev IsClassed : OrderRow → Type 0
-  IsClassed r = not (need_seen g line_rows staged_rows r == 0) ≡ true → urgent_number acts r.act ≡ is_urgent_seen urgent_rows r
+  IsClassed r = not (need_seen g read.lines read.staged r == 0) ≡ true → urgent_number acts r.act ≡ is_urgent_seen read.urgents r
 
   -- an order that is closed, or has no line of the item, wants nothing
-  wants_none : (r : OrderRow) → order_row first acts r.order ≡ Some r → is_open first acts r.order && has_line acts r.order g ≡ false → need_seen g line_rows staged_rows r ≡ 0
+  wants_none : (r : OrderRow) → order_row first acts r.order ≡ Some r → is_open first acts r.order && has_line acts r.order g ≡ false → need_seen g read.lines read.staged r ≡ 0
   wants_none r e closed =
       let m = some_of_mapped show (order_named acts r.order) r e in
       let own : order_named acts m.0.order ≡ Some m.0 = ap (λ (x : OrderRow). order_named acts x.order) m.2 ∙ m.1 in
-      ap (λ b. if b then need_seen g line_rows staged_rows r else 0) (sym (eq-eqb r.act r.act refl))
+      ap (λ b. if b then need_seen g read.lines read.staged r else 0) (sym (eq-eqb r.act r.act refl))
       ∙ row_told r.act r e ∙ ap (λ (x : OrderRow). order_wants r.act x.order) (sym m.2)
       ∙ none_if_not_needed r.act m.0 own (ap (λ (x : OrderRow). is_open first acts x.order && has_line acts x.order g) m.2 ∙ closed)
 
@@ -325,7 +285,7 @@ module _ (first : ℤ) (acts : List Act) (history : IsHistory first acts) (g : L
   classed r e = elim (is_open first acts r.order && has_line acts r.order g) as (λ b. is_open first acts r.order && has_line acts r.order g ≡ b → IsClassed r) [
     | true ↦ λ t some.
         let m = some_of_mapped show (order_named acts r.order) r e in
-        ap (λ (x : OrderRow). urgent_number acts x.act) (sym m.2) ∙ number_told acts r.order m.0 m.1 ∙ sym (class_told acts r.order m.0 m.1 urgent_rows (tells.urgents r.order t))
+        ap (λ (x : OrderRow). urgent_number acts x.act) (sym m.2) ∙ number_told acts r.order m.0 m.1 ∙ sym (class_told acts r.order m.0 m.1 read.urgents (tells.urgents r.order t))
     | false ↦ λ t some. let f : false ≡ true = ap (λ n. not (n == 0)) (sym (wants_none r e t)) ∙ some in cc
   ] refl
 
@@ -337,12 +297,12 @@ module _ (first : ℤ) (acts : List Act) (history : IsHistory first acts) (g : L
 
   module _ (c : Bool) (keep : List ℕ → Bool) (of_class : (r : OrderRow) → IsClassed r → keep r.order ≡ true → IsOf c (one r)) where
     abbrev rows_of : List OrderRow
-    rows_of = filter (λ r. keep r.order) order_rows
+    rows_of = filter (λ r. keep r.order) read.orders
 
     rows_are : AreRows same_text (λ (r : OrderRow). r.order) (λ o. (is_open first acts o && has_line acts o g) && keep o) (λ o. true) (order_row first acts) rows_of
     rows_are =
         kept_rows same_text same_text_is (λ (r : OrderRow). r.order) keep (λ o. is_open first acts o && has_line acts o g) (λ o. (is_open first acts o && has_line acts o g) && keep o) (λ o. true) (λ o. true)
-        (order_row first acts) (order_row first acts) (λ o e. and_both (is_open first acts o && has_line acts o g) (keep o) e) (λ o e. e) (λ o e. refl) order_rows tells.orders
+        (order_row first acts) (order_row first acts) (λ o e. and_both (is_open first acts o && has_line acts o g) (keep o) e) (λ o e. e) (λ o e. refl) read.orders tells.orders
 
     class_kept : (rows : List OrderRow) → AllByRecursion IsClassed rows → AllByRecursion (IsOf c) (map one (filter (λ r. keep r.order) rows))
     class_kept [] h = tt
@@ -352,10 +312,10 @@ module _ (first : ℤ) (acts : List Act) (history : IsHistory first acts) (g : L
     ] refl
 
     abbrev of_number : List Demand
-    of_number = demands_by_number g line_rows staged_rows rows_of
+    of_number = demands_by_number g read.lines read.staged rows_of
 
     class_same : AllClass (urgent_number acts) c (wanted of_number)
-    class_same = wanted_class c of_number (all_inserted is_earlier (IsOf c) [] (map one rows_of) tt (class_kept order_rows (all_classed order_rows tells.orders.own)))
+    class_same = wanted_class c of_number (all_inserted is_earlier (IsOf c) [] (map one rows_of) tt (class_kept read.orders (all_classed read.orders tells.orders.own)))
 
     class_served : AreServed (urgent_number acts) (wanted of_number)
     class_served =
@@ -363,9 +323,9 @@ module _ (first : ℤ) (acts : List Act) (history : IsHistory first acts) (g : L
         (rising_of (wanted of_number) (rising_kept is_earlier _ of_number (rising_inserted is_earlier (λ a b c e f. later_than a.booking b.booking c.booking e f) (map one rows_of) (are_ordered rows_of rows_are.own rows_are.once))))
 
   -- so the demands that want something stand in the order of service
-  rows_served : AreServed (urgent_number acts) (wanted (demands_seen g line_rows staged_rows urgent_rows order_rows))
+  rows_served : AreServed (urgent_number acts) (wanted (demands_in g read))
   rows_served =
-      let first_names : List ℕ → Bool = λ o. list_any (λ (u : UrgentRow). same_text o u.order) urgent_rows in
+      let first_names : List ℕ → Bool = λ o. list_any (λ (u : UrgentRow). same_text o u.order) read.urgents in
       let last_names : List ℕ → Bool = λ o. not (first_names o) in
       let ones : (r : OrderRow) → IsClassed r → first_names r.order ≡ true → IsOf true (one r) = λ r h e some. h some ∙ e in
       let others : (r : OrderRow) → IsClassed r → last_names r.order ≡ true → IsOf false (one r) = λ r h e some. h some ∙ not_true _ e in
@@ -374,7 +334,7 @@ module _ (first : ℤ) (acts : List Act) (history : IsHistory first acts) (g : L
       (class_served true first_names ones) (class_served false last_names others))
 
   -- the rows tell the demands, but for orders that want nothing
-  pub rows_tell_demands : wanted (demands_seen g line_rows staged_rows urgent_rows order_rows) ≡ wanted (demands first acts g)
+  pub rows_tell_demands : wanted (demands_in g read) ≡ wanted (demands first acts g)
   rows_tell_demands =
-      let seen = demands_seen g line_rows staged_rows urgent_rows order_rows in
+      let seen = demands_in g read in
       sym (wanted_twice seen) ∙ same_wanted first acts g history (wanted seen) rows_served (λ n. wanted_same n seen ∙ told n)

@@ -1,16 +1,5 @@
 -- The rows that differ: what is put and dropped of an item's reservations.
-use Rattle.std.proofs.Common.{◌≡◌, ℕ, Bool, true, false, ◌&&◌, not, List, [], ◌∷◌, refl, ap, sym, ◌∙◌}
-use Rattle.std.specs.Prelude.{◌||◌, if◌then◌else◌, Option, Some, None, find, filter, is_some}
-use Rattle.std.specs.List.{list_any}
-use Rattle.values.specs.Values.{same_text}
-use Rattle.values.specs.declared.lot.LotId.{LotId}
-use Rattle.commands.specs.declared.rows.ReservedRow.{ReservedRow}
-use Rattle.machine.specs.Postings.{is_lot, of_item}
-use Rattle.machine.specs.KeyedRows.{no_two}
-use Rattle.rules.specs.Slices.{differs}
-use Rattle.row_rules.specs.Plans.{is_share_of, has_qty, rows_to_put, rows_to_drop}
-use Rattle.machine.proofs.Tests.{and_both, not_true, same_text_is, is_lot_is}
-use Rattle.machine.proofs.Apart.{any_found, none_in_filter}
+use Rattle.rules.proofs.Words.{◌≡◌, ℕ, Bool, true, false, ◌&&◌, not, List, [], ◌∷◌, refl, ap, sym, ◌∙◌, ◌||◌, if◌then◌else◌, Option, Some, None, find, filter, is_some, list_any, same_text, LotId, ReservedRow, is_lot, of_item, no_two, differs, is_share_of, has_qty, rows_to_put, rows_to_drop, and_both, not_true, same_text_is, is_lot_is, any_found, none_in_filter}
 use Rattle.rules.proofs.rows.TableSteps.{IsNamed, share_row, nothing_named}
 
 module _ (o : List ℕ) (l : LotId) where

@@ -1,11 +1,5 @@
 -- Rows left out under some keys: the others are those of the look-up that has none under these.
-use Rattle.std.proofs.Common.{◌≡◌, Bool, true, false, ◌&&◌, not, List, [], ◌∷◌, refl, ap, sym, ◌∙◌}
-use Rattle.std.specs.Prelude.{◌||◌, if◌then◌else◌, Option, Some, None, find, filter, is_some}
-use Rattle.std.specs.List.{list_any}
-use Rattle.machine.specs.KeyedRows.{AreRows, AreOwn, no_two}
-use Rattle.rules.specs.Slices.{changed}
-use Rattle.machine.proofs.Tests.{and_both, not_true}
-use Rattle.machine.proofs.Apart.{any_found, none_in_filter}
+use Rattle.rules.proofs.Words.{◌≡◌, Bool, true, false, ◌&&◌, not, List, [], ◌∷◌, refl, ap, sym, ◌∙◌, ◌||◌, if◌then◌else◌, Option, Some, None, find, filter, is_some, list_any, AreRows, AreOwn, no_two, changed, and_both, not_true, any_found, none_in_filter}
 
 module _ {K R : Type 0} (same : K → K → Bool) (same_is : (a b : K) → same a b ≡ true → a ≡ b) (key : R → K) (gone : K → Bool) (row : K → Option R) where
   -- the look-up without the rows under these keys

@@ -1,23 +1,8 @@
 -- Rows that tell the balances before postings tell those after them: of any shelf, then of bins and of stages.
-use Rattle.std.proofs.Common.{◌≡◌, ℕ, ◌+◌, ◌-◌, ◌≤◌, Bool, true, false, ◌&&◌, not, List, [], ◌∷◌, ◌++◌, refl, ap, sym, subst, ◌∙◌, arith}
-use Rattle.std.specs.Prelude.{◌==◌, ◌||◌, if◌then◌else◌, Option, Some, None, filter}
-use Rattle.std.proofs.lemmas.Bool.{eqb-true}
-use Rattle.values.specs.declared.lot.LotId.{LotId}
-use Rattle.commands.specs.declared.rows.StockRow.{StockRow}
-use Rattle.commands.specs.declared.rows.StagedRow.{StagedRow}
-use Rattle.machine.specs.Postings.{Place, Supplier, InBin, Stage, Shipped, WriteOff, Posting, is_bin, is_stage, is_lot}
-use Rattle.machine.specs.Tables.{if_any}
-use Rattle.machine.specs.KeyedRows.{AreRows, LotBin, OrderLot, same_cell, same_share}
-use Rattle.machine.proofs.histories.Cells.{Cells, into, out_of, holds, Inner, CanTake, Legal, never_overdrawn, taken_from}
-use Rattle.machine.proofs.histories.PlaceRows.{and_turned}
-use Rattle.row_rules.specs.Seen.{CAP, capped}
 use Rattle.rules.proofs.rows.AfterRows.{loosened, rows_after}
 use Rattle.rules.proofs.rows.WithoutRows.{rows_without}
 use Rattle.rules.proofs.rows.SameKeys.{same_cell_is, same_cell_refl, same_cell_turned, same_share_is, same_share_refl, same_share_turned}
-use Rattle.shelves.specs.Shelf.{Shelf, bins, stages, units_of, units_at, rows_put, rows_with_units, taken, brought, one_posted, rows_posted, with_key, keys_posted}
-use Rattle.machine.specs.KeyedRows.{no_two}
-use Rattle.machine.proofs.Tests.{and_both, not_true, or_later}
-use Rattle.std.specs.List.{list_any}
+use Rattle.rules.proofs.Words.{◌≡◌, ℕ, ◌+◌, ◌-◌, ◌≤◌, Bool, true, false, ◌&&◌, not, List, [], ◌∷◌, ◌++◌, refl, ap, sym, subst, ◌∙◌, arith, ◌==◌, ◌||◌, if◌then◌else◌, Option, Some, None, filter, eqb-true, list_any, LotId, StockRow, StagedRow, Place, Supplier, InBin, Stage, Shipped, WriteOff, Posting, is_bin, is_stage, is_lot, if_any, AreRows, LotBin, OrderLot, same_cell, same_share, Cells, into, out_of, holds, Inner, CanTake, Legal, never_overdrawn, taken_from, and_turned, CAP, capped, Shelf, bins, stages, units_of, units_at, rows_put, rows_with_units, taken, brought, one_posted, rows_posted, with_key, keys_posted, no_two, and_both, not_true, or_later, or_none}
 use Rattle.rules.proofs.rows.StockChanged.{any_kept}
 
 -- what a shelf's keys and rows keep
@@ -38,10 +23,6 @@ NamesNeeded shelf needed (p ∷ ps) =
 abbrev pub AreWithin : {K : Type 0} → (List Posting → K → ℕ) → List Posting → List Posting → Type 0
 AreWithin held [] before = Unit {0}
 AreWithin held (p ∷ ps) before = ((k : _) → held (p ∷ ps ++ before) k ≤ CAP) × AreWithin held ps before
-
-either_false : (a b : Bool) → a || b ≡ false → (a ≡ false) × (b ≡ false)
-either_false true b e = let f : true ≡ false = e in cc
-either_false false b e = (refl, e)
 
 module _ {K R : Type 0} (shelf : Shelf K R) (is : IsShelf shelf) (needed : K → Bool) where
   -- the look-up where so many units are under each key
@@ -157,7 +138,7 @@ module _ {K R : Type 0} (shelf : Shelf K R) (is : IsShelf shelf) (needed : K →
   none_put : (m : K) (ks : List K) (after : List R) → list_any (shelf.same m) ks ≡ false → list_any (λ r. shelf.same m (shelf.key r)) (rows_put shelf ks after) ≡ false
   none_put m [] after e = refl
   none_put m (k ∷ ks) after e =
-      let two = either_false (shelf.same m k) (list_any (shelf.same m) ks) e in
+      let two = or_none (shelf.same m k) (list_any (shelf.same m) ks) e in
       let n = units_at shelf k after in
       elim (n == 0) as (λ z. list_any (λ r. shelf.same m (shelf.key r)) ((if z then [] else shelf.row k n ∷ []) ++ rows_put shelf ks after) ≡ false) [
         | true ↦ none_put m ks after two.1
@@ -179,7 +160,7 @@ module _ {K R : Type 0} (shelf : Shelf K R) (is : IsShelf shelf) (needed : K →
   unnamed m None ks e = (refl, e)
   unnamed m (Some k) ks e = elim (list_any (shelf.same k) ks) as (λ t. list_any (shelf.same k) ks ≡ t → list_any (shelf.same m) (if t then ks else k ∷ ks) ≡ false → (shelf.same m k ≡ false) × (list_any (shelf.same m) ks ≡ false)) [
     | true ↦ λ t f. (elim (shelf.same m k) as (λ u. shelf.same m k ≡ u → u ≡ false) [ true ↦ λ u. let g : true ≡ false = sym t ∙ ap (λ (x : K). list_any (shelf.same x) ks) (sym (is.same_is m k u)) ∙ f in g | false ↦ λ u. refl ] refl, f)
-    | false ↦ λ t f. either_false (shelf.same m k) (list_any (shelf.same m) ks) f
+    | false ↦ λ t f. or_none (shelf.same m k) (list_any (shelf.same m) ks) f
   ] refl e
 
   -- what passes among the rows after postings passed before, or has a key that they name

@@ -1,10 +1,5 @@
 -- Look-ups among rows that are kept by a test, or made of others.
-use Rattle.std.proofs.Common.{◌≡◌, Bool, true, false, ◌&&◌, not, List, [], ◌∷◌, refl, ap, sym, ◌∙◌}
-use Rattle.std.specs.Prelude.{if◌then◌else◌, Option, Some, find, filter, ◌||◌, None, map, option_map, is_some}
-use Rattle.std.specs.List.{list_any}
-use Rattle.machine.specs.KeyedRows.{AreOwn, no_two}
-use Rattle.machine.proofs.Tests.{and_both, not_true}
-use Rattle.machine.proofs.Apart.{any_found}
+use Rattle.rules.proofs.Words.{◌≡◌, Bool, true, false, ◌&&◌, not, List, [], ◌∷◌, refl, ap, sym, ◌∙◌, if◌then◌else◌, Option, Some, find, filter, ◌||◌, None, map, option_map, is_some, list_any, AreOwn, no_two, and_both, not_true, any_found}
 
 -- what is found passes the test
 pub found_passes : {X : Type 0} (test : X → Bool) (xs : List X) (x : X) → find test xs ≡ Some x → test x ≡ true

@@ -1,17 +1,5 @@
 -- The lot rows after an act that says of one lot that it is held, or that it is not.
-use Rattle.std.proofs.Common.{◌≡◌, Bool, true, false, List, [], refl, ap, sym, ◌∙◌}
-use Rattle.std.specs.Prelude.{if◌then◌else◌, Option, Some, None, option_map}
-use Rattle.values.specs.declared.lot.LotId.{LotId}
-use Rattle.commands.specs.declared.rows.LotRow.{LotRow}
-use Rattle.machine.specs.Acts.{Act}
-use Rattle.machine.specs.Postings.{is_lot}
-use Rattle.machine.specs.Standing.{KnownLot, lots, lot_known, lot_among, is_held}
-use Rattle.machine.specs.Tables.{lot_row}
-use Rattle.machine.specs.KeyedRows.{no_two}
-use Rattle.rules.specs.Slices.{changed, unless_put}
-use Rattle.lot_rules.specs.DecidedHold.{with_hold, lot_put}
-use Rattle.machine.proofs.Tests.{is_lot_is, is_lot_turned}
-use Rattle.machine.proofs.histories.Lots.{found_lot as found_known}
+use Rattle.rules.proofs.Words.{◌≡◌, Bool, true, false, List, [], refl, ap, sym, ◌∙◌, if◌then◌else◌, Option, Some, None, option_map, LotId, LotRow, Act, is_lot, KnownLot, lots, lot_known, lot_among, is_held, lot_row, no_two, changed, unless_put, with_hold, lot_put, is_lot_is, is_lot_turned, found_lot as found_known}
 
 -- the row under a lot is the lot's
 row_of_lot : (acts : List Act) (l : LotId) (row : LotRow) → lot_row acts l ≡ Some row → l ≡ row.lot

@@ -1,24 +1,7 @@
 -- What an act that touches several items puts and drops of reserved rows, item after item.
-use Rattle.std.proofs.Common.{◌≡◌, ℕ, Bool, true, false, ◌&&◌, not, List, [], ◌∷◌, ◌++◌, refl, ap, sym, ◌∙◌}
-use Rattle.std.specs.Prelude.{◌||◌, if◌then◌else◌, ℤ, Option, Some, None, find, filter, flat_map, is_some}
-use Rattle.std.specs.List.{list_any}
-use Rattle.values.specs.Values.{same_text}
-use Rattle.values.specs.declared.lot.LotId.{LotId}
-use Rattle.commands.specs.declared.rows.ReservedRow.{ReservedRow}
-use Rattle.machine.specs.Acts.{Act}
-use Rattle.machine.specs.Postings.{is_lot, of_item}
-use Rattle.machine.specs.Planning.{reserved}
-use Rattle.machine.specs.Once.{IsHistory}
-use Rattle.machine.specs.Touched.{is_touched}
-use Rattle.machine.specs.KeyedRows.{no_two}
-use Rattle.rules.specs.Slices.{unless_put}
-use Rattle.row_rules.specs.Plans.{is_share_of}
-use Rattle.machine.proofs.Tests.{and_both, or_false, or_none, not_true, same_text_is, same_text_refl, same_text_turned, is_lot_refl}
-use Rattle.machine.proofs.Apart.{any_found}
-use Rattle.machine.proofs.histories.OtherItems.{other_items_are_left_alone}
-use Rattle.machine.proofs.histories.Picks.{Each}
+use Rattle.rules.proofs.Words.{◌≡◌, ℕ, Bool, true, false, ◌&&◌, not, List, [], ◌∷◌, ◌++◌, refl, ap, sym, ◌∙◌, ◌||◌, if◌then◌else◌, ℤ, Option, Some, None, find, filter, flat_map, is_some, list_any, list_any-append, same_text, LotId, ReservedRow, Act, is_lot, of_item, reserved, IsHistory, is_touched, no_two, unless_put, is_share_of, and_both, or_false, or_none, not_true, same_text_is, same_text_refl, same_text_turned, is_lot_refl, any_found, other_items_are_left_alone, Each}
 use Rattle.rules.proofs.rows.TableSteps.{IsNamed, AreNamed, nothing_named}
-use Rattle.rules.proofs.rows.AddedRows.{put_over_none, find_appended, any_appended}
+use Rattle.rules.proofs.rows.AddedRows.{put_over_none, find_appended}
 
 -- Rows of one item
 
@@ -56,7 +39,7 @@ once_appended : (xs ys : List ReservedRow) (g : List ℕ) → AllOf g xs → ((r
 once_appended [] ys g of apart one two = two
 once_appended (x ∷ xs) ys g of apart one two =
     let both = and_both (not (list_any (is_share_of x) xs)) (no_two is_share_of xs) one in
-    let none : list_any (is_share_of x) (xs ++ ys) ≡ false = any_appended (is_share_of x) xs ys ∙ (λ i. not_true _ both.0 i || apart x of.0 i) in
+    let none : list_any (is_share_of x) (xs ++ ys) ≡ false = list_any-append (is_share_of x) xs ys ∙ (λ i. not_true _ both.0 i || apart x of.0 i) in
     (λ i. not (none i) && once_appended xs ys g of.1 apart both.1 two i)
 
 -- Each element is of one item, and what it puts and drops names the reservations of this item alone
@@ -81,7 +64,7 @@ module _ {X : Type 0} (item : X → List ℕ) (first : ℤ) (acts : List Act) (a
       let rest = others_named q l xs are.1 two.1 in
       record {
         put = find_appended _ (puts_of x) (puts xs) ∙ (λ i. unless_put (one.put i) false (rest.put i));
-        dropped = any_appended _ (drops_of x) (drops xs) ∙ (λ i. one.dropped i || rest.dropped i);
+        dropped = list_any-append _ (drops_of x) (drops xs) ∙ (λ i. one.dropped i || rest.dropped i);
       }
 
   -- a lot's reservations are named by its item
@@ -97,14 +80,14 @@ module _ {X : Type 0} (item : X → List ℕ) (first : ℤ) (acts : List Act) (a
             let rest = others_named q l xs are.1 (ap (λ (g : List ℕ). list_any (λ y. same_text g (item y)) xs) (same_text_is l.gtin (item x) t) ∙ not_true _ two.0) in
             record {
               put = find_appended _ (puts_of x) (puts xs) ∙ (λ i. unless_put (one.put i) false (rest.put i)) ∙ put_over_none _;
-              dropped = any_appended _ (drops_of x) (drops xs) ∙ (λ i. one.dropped i || rest.dropped i) ∙ or_false _;
+              dropped = list_any-append _ (drops_of x) (drops xs) ∙ (λ i. one.dropped i || rest.dropped i) ∙ or_false _;
             }
         | false ↦ λ t h.
             let one = none_named x are.0 q l (same_text_turned (item x) l.gtin ∙ t) in
             let rest = item_named q l xs are.1 two.1 h in
             record {
               put = find_appended _ (puts_of x) (puts xs) ∙ (λ i. unless_put (one.put i) false (rest.put i));
-              dropped = any_appended _ (drops_of x) (drops xs) ∙ (λ i. one.dropped i || rest.dropped i);
+              dropped = list_any-append _ (drops_of x) (drops xs) ∙ (λ i. one.dropped i || rest.dropped i);
             }
       ] refl e
 

@@ -1,10 +1,5 @@
 -- Some rows left out by their keys: the others are still the rows of the look-up, also of a later one that agrees there.
-use Rattle.std.proofs.Common.{◌≡◌, Bool, true, false, ◌&&◌, not, List, [], ◌∷◌, refl, ap, sym, ◌∙◌}
-use Rattle.std.specs.Prelude.{if◌then◌else◌, Option, Some, find, filter}
-use Rattle.std.specs.List.{list_any}
-use Rattle.machine.specs.KeyedRows.{AreRows, AreOwn, no_two}
-use Rattle.machine.proofs.Tests.{and_both, not_true}
-use Rattle.machine.proofs.Apart.{none_in_filter}
+use Rattle.rules.proofs.Words.{◌≡◌, Bool, true, false, ◌&&◌, not, List, [], ◌∷◌, refl, ap, sym, ◌∙◌, if◌then◌else◌, Option, Some, find, filter, list_any, AreRows, AreOwn, no_two, and_both, not_true, none_in_filter}
 
 module _ {K R : Type 0} (same : K → K → Bool) (same_is : (a b : K) → same a b ≡ true → a ≡ b) (key : R → K) (keep : K → Bool) where
   abbrev pub rows_kept : List R → List R

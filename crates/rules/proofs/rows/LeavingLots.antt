@@ -1,31 +1,6 @@
 -- An act by which lots stop being shippable: what was staged of them is in the bin RETURNS then, and all else is where it was.
-use Rattle.std.proofs.Common.{◌≡◌, ℕ, ◌+◌, ◌≤◌, Bool, true, false, ◌&&◌, List, ◌∷◌, ◌++◌, refl, ap, sym, subst, ◌∙◌, arith, eq-eqb}
-use Rattle.std.specs.Prelude.{◌==◌, if◌then◌else◌, Some, find, filter, flat_map, option_map, ℤ}
-use Rattle.std.specs.List.{list_any, list_all}
-use Rattle.values.specs.Values.{same_text}
-use Rattle.values.specs.declared.lot.LotId.{LotId}
-use Rattle.commands.specs.Lists.{total}
-use Rattle.commands.specs.declared.rows.OrderState.TheVariants.{Open, Done, Cancelled}
-use Rattle.commands.specs.declared.rows.CardRow.{CardRow}
-use Rattle.machine.specs.Acts.{Act, gathered, next_number}
-use Rattle.machine.specs.Postings.{Place, Supplier, InBin, Stage, Shipped, WriteOff, Posting, is_bin, is_lot, is_stage, is_shipped_to, is_shipment, of_item}
-use Rattle.machine.specs.Standing.{KnownLot, Placed, RETURNS, bins, lots, lot_known, is_shippable, orders, lines_placed, has_line, cancel_in}
-use Rattle.machine.specs.Ledger.{returned, postings, postings_of}
-use Rattle.machine.specs.Planning.{in_bin, staged_of_lot, shipped_of, is_open, is_open_state}
-use Rattle.machine.specs.Cards.{cards, card_lines}
-use Rattle.machine.specs.Replies.{units_returned}
-use Rattle.machine.specs.Once.{IsHistory}
-use Rattle.machine.specs.Tables.{if_any, order_row, line_row, shipline_row, card_row}
-use Rattle.machine.proofs.Tests.{and_false, is_zero, is_lot_is, same_text_refl}
-use Rattle.machine.proofs.histories.Cells.{Cells, into, out_of, into-append, out_of-append, holds, never_overdrawn}
-use Rattle.machine.proofs.histories.ItemBalances.{balance-of_item}
-use Rattle.machine.proofs.histories.LegalHistories.{legal_history}
-use Rattle.machine.proofs.histories.Staging.{IsStaging, none_returned}
-use Rattle.machine.proofs.histories.StagedLots.{staged_lots_are_shippable}
-use Rattle.machine.proofs.histories.ReturnedUnits.{returned_kept, units_taken, returned_has_no_line}
-use Rattle.machine.proofs.histories.RowSums.{cell_at, holds_nothing}
-use Rattle.machine.proofs.histories.PlaceRows.{stage_cells}
-use Rattle.machine.proofs.histories.UnshippableLots.{stages_of, both, both_hold, inner_stages}
+use Rattle.rules.proofs.Words.{◌≡◌, ℕ, ◌+◌, ◌≤◌, Bool, true, false, ◌&&◌, List, ◌∷◌, ◌++◌, refl, ap, sym, subst, ◌∙◌, arith, eq-eqb, ◌==◌, if◌then◌else◌, Some, find, filter, flat_map, option_map, ℤ, list_any, list_all, same_text, LotId, total, Open, Done, Cancelled, CardRow, Act, gathered, next_number, Place, Supplier, InBin, Stage, Shipped, WriteOff, Posting, is_bin, is_lot, is_stage, is_shipped_to, is_shipment, of_item, KnownLot, Placed, RETURNS, lots, lot_known, is_shippable, orders, lines_placed, has_line, cancel_in, returned, postings, postings_of, in_bin, staged_of_lot, shipped_of, is_open, is_open_state, cards, card_lines, units_returned, IsHistory, if_any, order_row, line_row, shipline_row, card_row, and_false, is_zero, is_lot_is, same_text_refl, Cells, into, out_of, into-append, out_of-append, holds, never_overdrawn, balance-of_item, legal_history, IsStaging, none_returned, staged_lots_are_shippable, returned_kept, units_taken, returned_has_no_line, cell_at, holds_nothing, stage_cells, stages_of, both, both_hold, inner_stages}
+use Rattle.machine.specs.Standing.{bins}
 
 module _ (first : ℤ) (acts : List Act) (act : Act) (gone : LotId → Bool) where
   -- no lot under these names is shippable after the act, and the act returns only such lots; it makes no order or bin, and

@@ -1,14 +1,5 @@
 -- Sums over rows of which at most one passes a test.
-use Rattle.std.proofs.Common.{◌≡◌, ℕ, ◌+◌, Bool, true, false, not, List, [], ◌∷◌, refl, sym, ◌∙◌, arith}
-use Rattle.std.specs.Prelude.{◌||◌, if◌then◌else◌, Option, Some, None, find}
-use Rattle.std.specs.List.{list_any}
-use Rattle.commands.specs.Lists.{total}
-use Rattle.machine.specs.KeyedRows.{no_two}
-use Rattle.machine.proofs.Tests.{and_both, or_none, not_true}
-
-pub same_totals : {X : Type 0} (f g : X → ℕ) → ((x : X) → f x ≡ g x) → (xs : List X) → total f xs ≡ total g xs
-same_totals f g same [] = refl
-same_totals f g same (x ∷ xs) = λ i. same x i + same_totals f g same xs i
+use Rattle.rules.proofs.Words.{◌≡◌, ℕ, ◌+◌, Bool, true, false, not, List, [], ◌∷◌, refl, sym, ◌∙◌, arith, ◌||◌, if◌then◌else◌, Option, Some, None, find, list_any, total, no_two, and_both, or_none, not_true}
 
 -- Of rows apart at most one passes a test that tells their key
 

@@ -1,23 +1,5 @@
 -- What the slice of any command but a shipment tells of the state of a lot that it names, and of the kind of a bin that it names.
-use Rattle.std.proofs.Common.{◌≡◌, true, not, List, refl, ap, sym, ◌∙◌, ℕ}
-use Rattle.std.specs.Prelude.{ℤ, Option, Some, None, option_map}
-use Rattle.values.specs.declared.lot.LotId.{LotId}
-use Rattle.commands.specs.declared.command.NewBin.{NewBin}
-use Rattle.machine.specs.Acts.{Act}
-use Rattle.machine.specs.Postings.{is_lot}
-use Rattle.machine.specs.Standing.{KnownLot, lots, lot_known, is_held, bin_named, is_store_row, is_store_bin}
-use Rattle.machine.specs.Once.{IsHistory}
-use Rattle.machine.specs.Tables.{tables_of}
-use Rattle.rules.specs.Slices.{IsSlice, ships, names_bin, names_lot}
-use Rattle.row_rules.specs.Seen.{lot_seen}
-use Rattle.row_rules.specs.Status.{is_past_row, is_below_row}
-use Rattle.row_rules.specs.Plans.{is_store_found}
-use Rattle.machine.specs.Verdict.{is_past, is_below}
-use Rattle.row_rules.specs.SeenLots.{is_held_row, sees_hold}
-use Rattle.order_rules.specs.DecidedPick.{sees_store}
-use Rattle.row_rules.specs.declared.slice.Slice.{Slice}
-use Rattle.machine.proofs.Tests.{is_lot_is, is_lot_turned}
-use Rattle.machine.proofs.histories.Lots.{not_held}
+use Rattle.rules.proofs.Words.{◌≡◌, true, not, List, refl, ap, sym, ◌∙◌, ℕ, ℤ, Option, Some, None, option_map, LotId, NewBin, Act, is_lot, KnownLot, lots, lot_known, is_held, bin_named, is_store_row, is_store_bin, IsHistory, tables_of, IsSlice, ships, names_bin, names_lot, lot_seen, is_past_row, is_below_row, is_store_found, is_past, is_below, is_held_row, sees_hold, sees_store, Slice, is_lot_is, is_lot_turned, not_held}
 use Rattle.rules.proofs.rows.Telling.{found_key}
 use Rattle.rules.proofs.rows.SliceTells.{found_lot, found_bin}
 

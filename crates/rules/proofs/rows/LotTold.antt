@@ -1,18 +1,6 @@
 -- What the slice of a command tells of a lot: whether one that it names is known, and its units in a bin that it names too; and the units
 -- in any bin of one that it touches, if it plans.
-use Rattle.std.proofs.Common.{◌≡◌, ℕ, true, false, ◌&&◌, not, List, refl, ap, sym, ◌∙◌}
-use Rattle.std.specs.Prelude.{◌||◌, ◌==◌, if◌then◌else◌, ℤ, Some, None, is_some}
-use Rattle.values.specs.declared.lot.LotId.{LotId}
-use Rattle.machine.specs.Acts.{Act}
-use Rattle.machine.specs.Standing.{lot_known, has_lot}
-use Rattle.machine.specs.Planning.{in_bin}
-use Rattle.machine.specs.Tables.{tables_of, if_any, stock_row}
-use Rattle.machine.specs.Touched.{is_touched}
-use Rattle.rules.specs.Slices.{IsSlice, ships, plans, names_bin, names_lot, on_named_stage}
-use Rattle.row_rules.specs.Seen.{stock_qty}
-use Rattle.row_rules.specs.SeenLots.{sees_lot, stock_found, in_bin_seen}
-use Rattle.row_rules.specs.declared.slice.Slice.{Slice}
-use Rattle.machine.proofs.Tests.{is_zero, or_first, or_later}
+use Rattle.rules.proofs.Words.{◌≡◌, ℕ, true, false, ◌&&◌, not, List, refl, ap, sym, ◌∙◌, ◌||◌, ◌==◌, if◌then◌else◌, ℤ, Some, None, is_some, LotId, Act, lot_known, has_lot, in_bin, tables_of, if_any, stock_row, is_touched, IsSlice, ships, plans, names_bin, names_lot, on_named_stage, stock_qty, sees_lot, stock_found, in_bin_seen, Slice, is_zero, or_first, or_later}
 use Rattle.rules.proofs.rows.SliceTells.{found_lot, some_mapped}
 
 -- what a row of a quantity, if any, has

@@ -1,25 +1,5 @@
 -- The stock rows and staged rows of a lot tell its units in the house.
-use Rattle.std.proofs.Common.{◌≡◌, ℕ, ◌≤◌, Bool, true, false, ◌&&◌, List, refl, ap, sym, ◌∙◌, arith}
-use Rattle.std.specs.Prelude.{ℤ}
-use Rattle.values.specs.Values.{same_text}
-use Rattle.values.specs.declared.lot.LotId.{LotId}
-use Rattle.commands.specs.declared.limits.TheConstants.{UNITS_MAX}
-use Rattle.commands.specs.declared.rows.StockRow.{StockRow}
-use Rattle.commands.specs.declared.rows.StagedRow.{StagedRow}
-use Rattle.machine.specs.Acts.{Act}
-use Rattle.machine.specs.Postings.{Place, Supplier, InBin, Stage, Shipped, WriteOff, Posting, in_house, is_bin, is_lot, of_item}
-use Rattle.machine.specs.Ledger.{postings}
-use Rattle.machine.specs.Planning.{in_bin}
-use Rattle.machine.specs.Cards.{lot_units_in_house}
-use Rattle.machine.specs.Once.{IsHistory}
-use Rattle.machine.specs.Tables.{stock_row, staged_row}
-use Rattle.machine.specs.KeyedRows.{AreRows, LotBin, OrderLot, same_cell, same_share}
-use Rattle.row_rules.specs.Seen.{lot_units}
-use Rattle.machine.proofs.Tests.{and_both, is_lot_is, and_not_itself}
-use Rattle.machine.proofs.histories.Cells.{Cells, without, holds, holds_split}
-use Rattle.machine.proofs.histories.LegalHistories.{legal_history}
-use Rattle.machine.proofs.histories.UnitsLimit.{units_within_limit}
-use Rattle.machine.proofs.histories.PlaceRows.{bin_cells, stage_cells, stock_holds, staged_holds}
+use Rattle.rules.proofs.Words.{◌≡◌, ℕ, ◌≤◌, Bool, true, false, ◌&&◌, List, refl, ap, sym, ◌∙◌, arith, ℤ, same_text, LotId, UNITS_MAX, StockRow, StagedRow, Act, Place, Supplier, InBin, Stage, Shipped, WriteOff, Posting, in_house, is_bin, is_lot, of_item, postings, in_bin, lot_units_in_house, IsHistory, stock_row, staged_row, AreRows, LotBin, OrderLot, same_cell, same_share, lot_units, and_both, is_lot_is, and_not_itself, Cells, without, holds, holds_split, legal_history, units_within_limit, bin_cells, stage_cells, stock_holds, staged_holds}
 
 of_same_item : (g : List ℕ) (l m : LotId) → of_item g l ≡ true → is_lot l m ≡ true → of_item g m ≡ true
 of_same_item g l m e f = ap (λ (x : LotId). of_item g x) (sym (is_lot_is l m f)) ∙ e

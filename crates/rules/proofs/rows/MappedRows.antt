@@ -1,8 +1,5 @@
 -- Rows each changed under its key are the rows of the look-up that is changed likewise.
-use Rattle.std.proofs.Common.{◌≡◌, Bool, true, false, not, ◌&&◌, List, [], ◌∷◌, refl, ap, ◌∙◌}
-use Rattle.std.specs.Prelude.{◌||◌, if◌then◌else◌, Option, Some, find, map, option_map}
-use Rattle.std.specs.List.{list_any}
-use Rattle.machine.specs.KeyedRows.{AreRows, AreOwn, no_two}
+use Rattle.rules.proofs.Words.{◌≡◌, Bool, true, false, not, ◌&&◌, List, [], ◌∷◌, refl, ap, ◌∙◌, ◌||◌, if◌then◌else◌, Option, Some, find, map, option_map, list_any, AreRows, AreOwn, no_two}
 
 module _ {K R : Type 0} (same : K → K → Bool) (key : R → K) (f : R → R) (keeps : (r : R) → key (f r) ≡ key r) where
   pub found_mapped : (k : K) (rows : List R) → find (λ r. same k (key r)) (map f rows) ≡ option_map f (find (λ r. same k (key r)) rows)

@@ -1,47 +1,11 @@
 -- What the orders of an item need together is what they have open, less what is staged of it.
-use Rattle.std.proofs.Common.{◌≡◌, ℕ, ◌+◌, ◌-◌, ◌≤◌, Bool, true, false, ◌&&◌, List, [], ◌∷◌, refl, ap, sym, ◌∙◌, arith}
-use Rattle.std.specs.Prelude.{◌==◌, if◌then◌else◌, ℤ, Option, Some, None, find, filter, map}
-use Rattle.std.specs.List.{list_all}
-use Rattle.values.specs.Values.{same_text}
-use Rattle.values.specs.declared.lot.LotId.{LotId}
-use Rattle.commands.specs.Lists.{total}
-use Rattle.commands.specs.declared.limits.TheConstants.{UNITS_MAX}
-use Rattle.commands.specs.declared.command.OrderLine.{OrderLine}
-use Rattle.commands.specs.declared.rows.OrderRow.{OrderRow}
-use Rattle.commands.specs.declared.rows.LineRow.{LineRow}
-use Rattle.commands.specs.declared.rows.StagedRow.{StagedRow}
-use Rattle.commands.specs.declared.rows.UrgentRow.{UrgentRow}
-use Rattle.commands.specs.declared.rows.OrderState.TheVariants.{Open, Done, Cancelled}
-use Rattle.plan.specs.declared.Demand.{Demand}
-use Rattle.plan.specs.Overlap.{demand_total}
-use Rattle.machine.specs.Acts.{Act}
-use Rattle.machine.specs.Postings.{Posting, Place, Supplier, InBin, Stage, Shipped, WriteOff, is_stage, of_item, in_house}
-use Rattle.machine.specs.Standing.{Placed, orders, order_named, lines_placed, is_cancelled}
-use Rattle.machine.specs.Ledger.{postings}
-use Rattle.machine.specs.Planning.{Booking, booking_of, lines_of_item, bookings, need, demand_of, demands, item_postings, staged, shipped, shipped_of, is_open, is_open_state, is_shipped_in_full, open_units}
-use Rattle.machine.specs.Once.{IsHistory}
-use Rattle.machine.specs.Tables.{staged_row, if_any}
-use Rattle.machine.specs.KeyedRows.{AreOwn, OrderLot}
-use Rattle.row_rules.specs.Seen.{staged_units}
-use Rattle.row_rules.specs.Plans.{staged_seen}
-use Rattle.machine.proofs.Tests.{and_both, same_text_is, same_text_turned}
-use Rattle.machine.proofs.Apart.{AllFound}
-use Rattle.machine.proofs.histories.Cells.{Cells, holds, holds_split}
-use Rattle.machine.proofs.histories.ItemBalances.{balance-of_item}
-use Rattle.machine.proofs.histories.LegalHistories.{legal_history}
-use Rattle.machine.proofs.histories.Orders.{NoNeed, same_order, orders_apart, orders_found, orders_single, closed_needs_none}
-use Rattle.machine.proofs.histories.ClosedOrders.{ordered_of, served_is, served_within_ordered, closed_is_unstaged}
-use Rattle.machine.proofs.histories.Needs.{line_qty}
-use Rattle.machine.proofs.histories.LineLimits.{ordered_within_limit}
-use Rattle.machine.proofs.histories.PlaceRows.{staged_holds, stage_cells}
-use Rattle.machine.proofs.histories.UnitsLimit.{units_within_limit}
+use Rattle.rules.proofs.Words.{◌≡◌, ℕ, ◌+◌, ◌-◌, ◌≤◌, Bool, true, false, ◌&&◌, List, [], ◌∷◌, refl, ap, sym, ◌∙◌, arith, ◌==◌, if◌then◌else◌, ℤ, Option, Some, None, find, filter, map, list_all, same_text, LotId, total, UNITS_MAX, OrderLine, StagedRow, Open, Done, Cancelled, Demand, demand_total, Act, Posting, Place, Supplier, InBin, Stage, Shipped, WriteOff, is_stage, of_item, in_house, Placed, orders, order_named, lines_placed, is_cancelled, postings, Booking, booking_of, lines_of_item, bookings, need, demand_of, demands, item_postings, staged, shipped, shipped_of, is_open, is_open_state, is_shipped_in_full, open_units, IsHistory, staged_row, if_any, AreOwn, OrderLot, staged_units, staged_seen, and_both, same_text_is, same_text_turned, AllFound, Cells, holds, holds_split, balance-of_item, legal_history, NoNeed, same_order, orders_apart, orders_found, orders_single, closed_needs_none, ordered_of, served_is, served_within_ordered, closed_is_unstaged, line_qty, ordered_within_limit, staged_holds, stage_cells, units_within_limit, Rows}
 use Rattle.rules.proofs.rows.Telling.{totals_swapped, picked, once_apart, found_key}
 use Rattle.rules.proofs.rows.Ordering.{total_map}
 use Rattle.rules.proofs.rows.BookingSums.{total_bookings}
 use Rattle.rules.proofs.rows.DemandsTold.{TellsDemands, same_total, staged_same, listed, line_found, single_of, open_is_uncancelled}
 
-module _ (first : ℤ) (acts : List Act) (history : IsHistory first acts) (g : List ℕ) (order_rows : List OrderRow) (line_rows : List LineRow) (staged_rows : List StagedRow) (urgent_rows : List UrgentRow)
-    (tells : TellsDemands first acts g order_rows line_rows staged_rows urgent_rows) where
+module _ (first : ℤ) (acts : List Act) (history : IsHistory first acts) (g : List ℕ) (read : Rows) (tells : TellsDemands first acts g read) where
   abbrev ips : List Posting
   ips = item_postings first acts g
 
@@ -52,8 +16,8 @@ module _ (first : ℤ) (acts : List Act) (history : IsHistory first acts) (g : L
   served_bound : (o : List ℕ) → on_stage o + shipped_of first acts o g ≤ ordered_of acts o g
   served_bound o = omega (arith, served_within_ordered first acts history o g, served_is first acts (legal_history first acts history) o g, balance-of_item (is_stage o) g (of_item g) (λ l e. e) (postings first acts))
 
-  stage_told : (o : List ℕ) → staged_seen g o staged_rows ≡ on_stage o
-  stage_told o = omega (arith, staged_same first acts history g staged_rows tells.staged o, served_bound o, ordered_within_limit first acts history o g)
+  stage_told : (o : List ℕ) → staged_seen g o read.staged ≡ on_stage o
+  stage_told o = omega (arith, staged_same first acts history g read.staged tells.staged o, served_bound o, ordered_within_limit first acts history o g)
 
   -- Staged rows are of open orders
 
@@ -104,12 +68,12 @@ module _ (first : ℤ) (acts : List Act) (history : IsHistory first acts) (g : L
   each_row (r ∷ rs) h =
       λ i. (turned r (of_item g r.lot) (orders acts) ∙ ap (λ n. if of_item g r.lot then n else 0) (by_name r h.1 (order_named acts r.order) refl)) i + each_row rs h.2 i
 
-  each_stage : (ps : List Placed) → total (λ (p : Placed). on_stage p.order) ps ≡ total (λ (p : Placed). staged_seen g p.order staged_rows) ps
+  each_stage : (ps : List Placed) → total (λ (p : Placed). on_stage p.order) ps ≡ total (λ (p : Placed). staged_seen g p.order read.staged) ps
   each_stage [] = refl
   each_stage (p ∷ ps) = λ i. sym (stage_told p.order) i + each_stage ps i
 
-  stages_told : total (λ (p : Placed). on_stage p.order) (orders acts) ≡ staged_units g staged_rows
-  stages_told = each_stage (orders acts) ∙ totals_swapped one (orders acts) staged_rows ∙ each_row staged_rows tells.staged.own
+  stages_told : total (λ (p : Placed). on_stage p.order) (orders acts) ≡ staged_units g read.staged
+  stages_told = each_stage (orders acts) ∙ totals_swapped one (orders acts) read.staged ∙ each_row read.staged tells.staged.own
 
   -- An order that is closed has nothing staged
 
@@ -166,7 +130,7 @@ module _ (first : ℤ) (acts : List Act) (history : IsHistory first acts) (g : L
           none_needed (lines_of_item g p) (closed_needs_none first acts g p named e),
           none_open p e (filter (λ l. same_text g l.gtin) p.lines),
           stage_told p.order,
-          none_of_closed p.order e staged_rows tells.staged.own,
+          none_of_closed p.order e read.staged tells.staged.own,
         )
   ] refl
 
@@ -184,7 +148,7 @@ module _ (first : ℤ) (acts : List Act) (history : IsHistory first acts) (g : L
   open_is : open_units first acts g ≡ total (λ p. total booking_open (lines_of_item g p)) (orders acts)
   open_is = total_bookings booking_open acts g
 
-  pub rows_tell_needs : demand_total (demands first acts g) + staged_units g staged_rows ≡ open_units first acts g
+  pub rows_tell_needs : demand_total (demands first acts g) + staged_units g read.staged ≡ open_units first acts g
   rows_tell_needs = omega (arith, needs_are, open_is, stages_told, each_order (orders acts) (orders_found first acts history))
 
   -- and the staged units are within the limit
@@ -196,10 +160,10 @@ module _ (first : ℤ) (acts : List Act) (history : IsHistory first acts) (g : L
   in_the_house (InBin b) l e = let f : false ≡ true = e in cc
   in_the_house (Shipped n q) l e = let f : false ≡ true = e in cc
 
-  pub stages_within_limit : staged_units g staged_rows ≤ UNITS_MAX
+  pub stages_within_limit : staged_units g read.staged ≤ UNITS_MAX
   stages_within_limit =
       let legal = legal_history first acts history in
       let cells : Cells = stage_cells (λ l o. of_item g l) in
-      let told : holds cells (postings first acts) ≡ staged_units g staged_rows = staged_holds first acts legal (λ l o. of_item g l) (λ k. of_item g k.1) (λ k. true) staged_rows tells.staged (λ l q e. e) in
+      let told : holds cells (postings first acts) ≡ staged_units g read.staged = staged_holds first acts legal (λ l o. of_item g l) (λ k. of_item g k.1) (λ k. true) read.staged tells.staged (λ l q e. e) in
       let house = holds_split (postings first acts) legal cells (λ p l. in_house p && of_item g l) (record { supplier = λ m. refl; write_off = λ m. refl }) (record { supplier = λ m. refl; write_off = λ m. refl }) in_the_house in
       omega (arith, told, house, units_within_limit first acts history g)

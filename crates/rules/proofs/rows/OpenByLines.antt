@@ -1,16 +1,7 @@
 -- The open units of an item, order by order, are those of its lines, line by line.
-use Rattle.std.proofs.Common.{◌≡◌, ℕ, ◌-◌, Bool, true, false, ◌&&◌, List, [], ◌∷◌, refl, sym, ◌∙◌, arith}
-use Rattle.std.specs.Prelude.{if◌then◌else◌, Option, Some, None, find}
-use Rattle.values.specs.Values.{same_text}
-use Rattle.commands.specs.Lists.{total}
-use Rattle.commands.specs.declared.rows.OrderRow.{OrderRow}
-use Rattle.commands.specs.declared.rows.LineRow.{LineRow}
-use Rattle.machine.specs.Planning.{is_open_state}
-use Rattle.machine.specs.KeyedRows.{no_two, same_line}
-use Rattle.machine.proofs.Tests.{and_both, same_text_is, same_text_refl, same_text_turned}
-use Rattle.row_rules.specs.OpenLines.{is_open_among, open_of_line}
+use Rattle.rules.proofs.Words.{◌≡◌, ℕ, ◌-◌, Bool, true, false, ◌&&◌, List, [], ◌∷◌, refl, sym, ◌∙◌, arith, if◌then◌else◌, Option, Some, None, find, same_text, total, OrderRow, LineRow, is_open_state, no_two, same_line, and_both, same_text_is, same_text_refl, same_text_turned, total_agree, is_open_among, open_of_line}
 use Rattle.rules.proofs.rows.Telling.{totals_swapped}
-use Rattle.rules.proofs.rows.LineSums.{same_totals, found_total, any_total}
+use Rattle.rules.proofs.rows.LineSums.{found_total, any_total}
 
 -- what a line that is found has open
 abbrev pub units_open : Option LineRow → ℕ
@@ -84,13 +75,13 @@ module _ (g : List ℕ) (orders : List OrderRow) (lines : List LineRow) (orders_
   each_line l =
       elim (same_text g l.gtin) as (λ b. total (λ o. if same_text o.order l.order && b then (if is_open_state o.state then units l else 0) else 0) orders ≡ (if b && is_open_among orders l.order then units l else 0)) [
         | true ↦
-            same_totals (λ o. if same_text o.order l.order && true then (if is_open_state o.state then units l else 0) else 0) (λ o. if is_open_of l o then units l else 0) (turned l) orders
+            total_agree (λ o. if same_text o.order l.order && true then (if is_open_state o.state then units l else 0) else 0) (λ o. if is_open_of l o then units l else 0) (turned l) orders
             ∙ sym (any_total (λ (r s : OrderRow). same_text r.order s.order) (is_open_of l) (order_tells l) (units l) orders orders_once)
-        | false ↦ same_totals (λ o. if same_text o.order l.order && false then (if is_open_state o.state then units l else 0) else 0) (λ o. 0) (none_of l) orders ∙ no_sum orders
+        | false ↦ total_agree (λ o. if same_text o.order l.order && false then (if is_open_state o.state then units l else 0) else 0) (λ o. 0) (none_of l) orders ∙ no_sum orders
       ]
 
   pub open_by_lines : total (open_of_line g orders) lines ≡ total (open_of_order g lines) orders
   open_by_lines =
-      sym (same_totals (open_of_order g lines) (λ o. total (both o) lines) each_order orders
+      sym (total_agree (open_of_order g lines) (λ o. total (both o) lines) each_order orders
       ∙ totals_swapped both orders lines
-      ∙ same_totals (λ l. total (λ o. both o l) orders) (open_of_line g orders) each_line lines)
+      ∙ total_agree (λ l. total (λ o. both o l) orders) (open_of_line g orders) each_line lines)

@@ -1,19 +1,5 @@
 -- The items of the lines that a slice has of the order that the command names.
-use Rattle.std.proofs.Common.{◌≡◌, ℕ, true, false, ◌&&◌, not, List, [], ◌∷◌, refl, ap, sym, ◌∙◌}
-use Rattle.std.specs.Prelude.{◌||◌, if◌then◌else◌, filter, map, ℤ}
-use Rattle.std.specs.List.{list_any}
-use Rattle.values.specs.Values.{same_text}
-use Rattle.commands.specs.declared.rows.LineRow.{LineRow}
-use Rattle.machine.specs.Acts.{Act}
-use Rattle.machine.specs.Standing.{has_line}
-use Rattle.machine.specs.Tables.{tables_of}
-use Rattle.machine.specs.KeyedRows.{no_two}
-use Rattle.rules.specs.Slices.{IsSlice, picks, names_order}
-use Rattle.row_rules.specs.SeenOrders.{items_seen}
-use Rattle.row_rules.specs.declared.slice.Slice.{Slice}
-use Rattle.machine.specs.Touched.{is_touched}
-use Rattle.machine.proofs.Tests.{and_both, not_true, or_first, same_text_is}
-use Rattle.machine.proofs.Apart.{any_found}
+use Rattle.rules.proofs.Words.{◌≡◌, ℕ, true, false, ◌&&◌, not, List, [], ◌∷◌, refl, ap, sym, ◌∙◌, ◌||◌, if◌then◌else◌, filter, map, ℤ, list_any, same_text, LineRow, Act, has_line, tables_of, no_two, IsSlice, picks, names_order, items_seen, Slice, is_touched, and_both, not_true, or_first, same_text_is, any_found}
 use Rattle.rules.proofs.rows.OrderTold.{line_told}
 
 abbrev gtins : List LineRow → List (List ℕ)

@@ -1,35 +1,5 @@
 -- What the slice of a command tells of the order that it names: its row, its state, its lines, and, unless it is a pick, what is staged for it.
-use Rattle.std.proofs.Common.{◌≡◌, ℕ, ◌+◌, Bool, true, false, ◌&&◌, not, List, [], ◌∷◌, refl, ap, sym, ◌∙◌, arith, eq-eqb}
-use Rattle.std.specs.Prelude.{◌||◌, ◌==◌, if◌then◌else◌, find, Option, Some, None, option_map, is_some, ℤ}
-use Rattle.std.specs.List.{list_all}
-use Rattle.std.proofs.lemmas.Bool.{eqb-true}
-use Rattle.values.specs.Values.{same_text}
-use Rattle.values.specs.declared.lot.LotId.{LotId}
-use Rattle.commands.specs.declared.command.OrderLine.{OrderLine}
-use Rattle.commands.specs.declared.rows.OrderState.TheVariants.{Open, Done, Cancelled}
-use Rattle.commands.specs.declared.rows.OrderRow.{OrderRow}
-use Rattle.commands.specs.declared.rows.StagedRow.{StagedRow}
-use Rattle.commands.specs.Lists.{total}
-use Rattle.machine.specs.Acts.{Act}
-use Rattle.machine.specs.Postings.{Place, Supplier, InBin, Stage, Shipped, WriteOff, is_stage, any_lot}
-use Rattle.machine.specs.Standing.{Placed, orders, order_named, has_lot, has_order, has_line, lines_of, lines_placed, is_cancelled}
-use Rattle.machine.specs.Ledger.{postings}
-use Rattle.machine.specs.Planning.{is_open, is_open_state, is_shipped_in_full, order_state, shipped_of, staged_for_order}
-use Rattle.machine.specs.Once.{IsHistory}
-use Rattle.machine.specs.Tables.{tables_of, if_any, order_row, line_row, staged_row}
-use Rattle.machine.specs.Touched.{is_touched}
-use Rattle.machine.specs.KeyedRows.{AreRows, AreOwn, OrderLot, same_share}
-use Rattle.rules.specs.Slices.{IsSlice, picks, names_order}
-use Rattle.row_rules.specs.Seen.{capped}
-use Rattle.row_rules.specs.SeenOrders.{order_row_seen, sees_order, is_open_row, sees_open, line_row_seen, sees_line, staged_for, staged_for_seen}
-use Rattle.row_rules.specs.declared.slice.Slice.{Slice}
-use Rattle.machine.proofs.Tests.{and_both, or_first, same_text_is}
-use Rattle.machine.proofs.Apart.{any_found}
-use Rattle.machine.proofs.histories.Cells.{Cells, without, holds_split}
-use Rattle.machine.proofs.histories.LegalHistories.{legal_history}
-use Rattle.machine.proofs.histories.Orders.{found_order}
-use Rattle.machine.proofs.histories.KnownPlaces.{KnownPlace, unknown_holds_nothing, unknown_line_is_unstaged}
-use Rattle.machine.proofs.histories.PlaceRows.{stage_cells, staged_holds}
+use Rattle.rules.proofs.Words.{◌≡◌, ℕ, ◌+◌, Bool, true, false, ◌&&◌, not, List, [], ◌∷◌, refl, ap, sym, ◌∙◌, arith, eq-eqb, ◌||◌, ◌==◌, if◌then◌else◌, find, Option, Some, None, option_map, is_some, ℤ, list_all, eqb-true, same_text, LotId, OrderLine, Open, Done, Cancelled, OrderRow, StagedRow, total, Act, Place, Supplier, InBin, Stage, Shipped, WriteOff, is_stage, any_lot, Placed, orders, order_named, has_lot, has_order, has_line, lines_of, lines_placed, is_cancelled, postings, is_open, is_open_state, is_shipped_in_full, order_state, shipped_of, staged_for_order, IsHistory, tables_of, if_any, order_row, line_row, staged_row, is_touched, AreRows, AreOwn, OrderLot, same_share, IsSlice, picks, names_order, capped, order_row_seen, sees_order, is_open_row, sees_open, line_row_seen, sees_line, staged_for, staged_for_seen, Slice, and_both, or_first, same_text_is, any_found, Cells, without, holds_split, legal_history, found_order, KnownPlace, unknown_holds_nothing, unknown_line_is_unstaged, stage_cells, staged_holds}
 use Rattle.rules.proofs.rows.SliceTells.{some_mapped}
 use Rattle.rules.proofs.rows.SliceDemands.{staged_touched}
 

@@ -1,9 +1,5 @@
 -- A command that plans is no shipment and no pick, and asks for all rows of the items that it touches.
-use Rattle.std.proofs.Common.{◌≡◌, Bool, true, false, ◌&&◌, not, refl, ◌∙◌}
-use Rattle.std.specs.Prelude.{◌||◌}
-use Rattle.commands.specs.declared.command.Command.{Command}
-use Rattle.rules.specs.Slices.{ships, picks, plans}
-use Rattle.machine.proofs.Tests.{and_both}
+use Rattle.rules.proofs.Words.{◌≡◌, Bool, true, false, ◌&&◌, not, refl, ◌∙◌, ◌||◌, Command, ships, picks, plans, and_both}
 
 pub no_shipment : (command : Command) → plans command ≡ true → not (ships command) ≡ true
 no_shipment command planned = (and_both (not (ships command)) (not (picks command)) planned).0

@@ -1,25 +1,7 @@
 -- Rows that an act leaves as they were whose postings reach no shipment, and which makes nothing known.
-use Rattle.std.proofs.Common.{◌≡◌, ℕ, ◌+◌, ◌-◌, Bool, true, false, ◌&&◌, List, [], ◌∷◌, ◌++◌, refl, ap, sym, ◌∙◌, arith}
-use Rattle.std.specs.Prelude.{◌==◌, if◌then◌else◌, ℤ, pos, Some, find, filter, option_map, flat_map, ◌+ℤ◌}
-use Rattle.std.specs.List.{list_all, list_any}
-use Rattle.values.specs.Values.{same_text}
-use Rattle.values.specs.declared.lot.LotId.{LotId}
-use Rattle.commands.specs.declared.command.NewItem.{NewItem}
-use Rattle.commands.specs.declared.command.NewBin.{NewBin}
-use Rattle.commands.specs.declared.command.OrderLine.{OrderLine}
-use Rattle.commands.specs.declared.rows.ShipmentRow.{ShipmentRow}
-use Rattle.commands.specs.declared.rows.OrderState.TheVariants.{Open, Done, Cancelled}
-use Rattle.commands.specs.declared.rows.CardRow.{CardRow}
-use Rattle.commands.specs.declared.rows.LotRow.{LotRow}
-use Rattle.machine.specs.Acts.{Act, gathered}
-use Rattle.machine.specs.Postings.{Place, Supplier, InBin, Stage, Shipped, WriteOff, Posting, balance, units_in, units_out, is_lot, is_shipped_to, is_shipment, of_item}
-use Rattle.machine.specs.Standing.{items, bins, lots, hold_in, recall_in, orders, cancel_in, least_in, days_asked, least_days, least_expiry, says_held, KnownLot, Recalling, Placed, lines_placed, today, shipments, lines_of, has_line}
-use Rattle.machine.specs.Ledger.{posting, postings, postings_of}
-use Rattle.machine.specs.Planning.{shipped_of, is_open, is_open_state, order_state}
-use Rattle.machine.specs.Cards.{cards, card_lines}
-use Rattle.machine.specs.Tables.{if_any, item_row, least_row, bin_row, lot_row, recall_row, order_row, urgent_row, line_row, shipment_row, shipline_row, card_row}
-use Rattle.machine.specs.KeyedRows.{no_two}
-use Rattle.rules.specs.Slices.{changed, unless_put}
+use Rattle.rules.proofs.Words.{◌≡◌, ℕ, ◌+◌, ◌-◌, Bool, true, false, ◌&&◌, List, [], ◌∷◌, ◌++◌, refl, ap, sym, ◌∙◌, arith, ◌==◌, if◌then◌else◌, ℤ, pos, Some, find, filter, option_map, flat_map, ◌+ℤ◌, list_all, list_any, same_text, LotId, NewItem, NewBin, OrderLine, ShipmentRow, Open, Done, Cancelled, CardRow, LotRow, Act, gathered, Place, Supplier, InBin, Stage, Shipped, WriteOff, Posting, balance, units_in, is_lot, is_shipped_to, is_shipment, of_item, items, lots, hold_in, recall_in, orders, cancel_in, least_in, days_asked, least_days, least_expiry, says_held, KnownLot, Recalling, Placed, lines_placed, today, shipments, lines_of, has_line, posting, postings, postings_of, shipped_of, is_open, is_open_state, order_state, cards, card_lines, if_any, item_row, least_row, bin_row, lot_row, recall_row, order_row, urgent_row, line_row, shipment_row, shipline_row, card_row, no_two, changed, unless_put}
+use Rattle.machine.specs.Postings.{units_out}
+use Rattle.machine.specs.Standing.{bins}
 use Rattle.rules.proofs.rows.ClassesTold.{same_urgents}
 
 abbrev pub Each : (Posting → Type 0) → List Posting → Type 0

@@ -1,11 +1,5 @@
 -- Rows put over others, each in the place of that under its key, are the rows of the look-up that has them.
-use Rattle.std.proofs.Common.{◌≡◌, Bool, true, false, not, List, [], ◌∷◌, ◌++◌, refl, ap, sym}
-use Rattle.std.specs.Prelude.{if◌then◌else◌, Option, Some, None, find, filter, is_some}
-use Rattle.std.specs.List.{list_any}
-use Rattle.machine.specs.KeyedRows.{AreRows, no_two}
-use Rattle.rules.specs.Slices.{unless_put}
-use Rattle.machine.proofs.Tests.{or_first, or_later}
-use Rattle.machine.proofs.Apart.{any_found}
+use Rattle.rules.proofs.Words.{◌≡◌, Bool, true, false, not, List, [], ◌∷◌, ◌++◌, refl, ap, sym, if◌then◌else◌, Option, Some, None, find, filter, is_some, list_any, AreRows, no_two, unless_put, or_first, or_later, any_found}
 use Rattle.rules.proofs.rows.AfterRows.{loosened}
 use Rattle.rules.proofs.rows.AddedRows.{all_added}
 use Rattle.rules.proofs.rows.DroppedRows.{rows_left, none_left}

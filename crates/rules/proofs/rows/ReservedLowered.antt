@@ -1,17 +1,5 @@
 -- Reserved rows where units are taken from one reservation, and from no other.
-use Rattle.std.proofs.Common.{◌≡◌, ℕ, ◌<◌, Bool, true, false, ◌&&◌, not, List, [], ◌∷◌, refl, ap, sym, ◌∙◌, arith}
-use Rattle.std.specs.Prelude.{◌==◌, ◌||◌, if◌then◌else◌, Option, Some, None, find, is_some}
-use Rattle.std.specs.List.{list_any, cons_option}
-use Rattle.std.proofs.lemmas.Bool.{eqb-true}
-use Rattle.values.specs.Values.{same_text}
-use Rattle.values.specs.declared.lot.LotId.{LotId}
-use Rattle.commands.specs.declared.rows.ReservedRow.{ReservedRow}
-use Rattle.machine.specs.Postings.{is_lot}
-use Rattle.machine.specs.KeyedRows.{no_two}
-use Rattle.rules.specs.Slices.{differs}
-use Rattle.row_rules.specs.Plans.{is_share_of}
-use Rattle.row_rules.specs.SeenStages.{reserved_found, reserved_put, reserved_gone}
-use Rattle.machine.proofs.Tests.{same_text_refl, is_lot_refl}
+use Rattle.rules.proofs.Words.{◌≡◌, ℕ, ◌<◌, Bool, true, false, ◌&&◌, not, List, [], ◌∷◌, refl, ap, sym, ◌∙◌, arith, ◌==◌, ◌||◌, if◌then◌else◌, Option, Some, None, find, is_some, list_any, cons_option, eqb-true, same_text, LotId, ReservedRow, is_lot, no_two, differs, is_share_of, reserved_found, reserved_put, reserved_gone, same_text_refl, is_lot_refl}
 use Rattle.rules.proofs.rows.TableSteps.{IsNamed, share_row, nothing_named}
 
 -- m units are reserved of the lot for the order, and of these `left` stay

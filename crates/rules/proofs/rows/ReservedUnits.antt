@@ -1,28 +1,5 @@
 -- The reserved rows of an order and an item add up to what the item's plan reserves for the order.
-use Rattle.std.proofs.Common.{◌≡◌, ℕ, ◌+◌, Bool, true, false, ◌&&◌, not, List, [], ◌∷◌, ◌++◌, refl, ap, sym, ◌∙◌, arith, eq-eqb}
-use Rattle.std.specs.Prelude.{◌==◌, ◌||◌, if◌then◌else◌, ℤ, Option, Some, None, find, filter, map, option_map, is_some}
-use Rattle.std.specs.List.{list_any, AllByRecursion}
-use Rattle.std.proofs.lemmas.Bool.{eqb-true}
-use Rattle.std.proofs.lemmas.List.{map-id}
-use Rattle.values.specs.Values.{same_text}
-use Rattle.values.specs.declared.lot.LotId.{LotId}
-use Rattle.commands.specs.Lists.{total}
-use Rattle.commands.specs.declared.rows.ReservedRow.{ReservedRow}
-use Rattle.plan.specs.declared.Row.{Row}
-use Rattle.plan.specs.declared.Supply.{Supply}
-use Rattle.plan.specs.Overlap.{Stretch, row_of, rows_of_demand, rows_of_stretches, demands_laid, supplies_laid, reserved_in, reserved_for}
-use Rattle.machine.specs.Acts.{Act}
-use Rattle.machine.specs.Postings.{is_lot, of_item}
-use Rattle.machine.specs.Standing.{KnownLot, Placed, lots, lots_of, lot_known, order_named, is_shippable}
-use Rattle.machine.specs.Planning.{plan, demands, supplies, supply_of, item_postings, goes_before, shippable_lots, reserved, reserved_of}
-use Rattle.machine.specs.Tables.{if_any, reserved_row}
-use Rattle.machine.specs.KeyedRows.{AreRows, AreOwn, OrderLot, same_share, no_two}
-use Rattle.machine.proofs.Numbers.{equal_turned, unequal_above}
-use Rattle.machine.proofs.Tests.{and_both, and_false, is_zero, not_true, or_first, or_later, same_text_is, is_lot_is, is_lot_refl, is_lot_turned}
-use Rattle.machine.proofs.Apart.{AreApart, AllFound, all_found, any_found, apart-filter}
-use Rattle.machine.proofs.histories.Falling.{AllBelow, AreFalling}
-use Rattle.machine.proofs.histories.Lots.{same_known, lots_apart, lots_found, lots_numbered, found_lot}
-use Rattle.machine.proofs.histories.PlaceRows.{any_some}
+use Rattle.rules.proofs.Words.{◌≡◌, ℕ, ◌+◌, Bool, true, false, ◌&&◌, not, List, [], ◌∷◌, ◌++◌, refl, ap, sym, ◌∙◌, arith, eq-eqb, ◌==◌, ◌||◌, if◌then◌else◌, ℤ, Option, Some, None, find, filter, map, option_map, is_some, list_any, AllByRecursion, eqb-true, map-id, same_text, LotId, total, ReservedRow, Row, Supply, Stretch, row_of, rows_of_demand, rows_of_stretches, demands_laid, supplies_laid, reserved_in, reserved_for, Act, is_lot, of_item, KnownLot, Placed, lots, lots_of, lot_known, order_named, is_shippable, plan, demands, supplies, supply_of, item_postings, goes_before, shippable_lots, reserved, reserved_of, if_any, reserved_row, AreRows, AreOwn, OrderLot, same_share, no_two, equal_turned, unequal_above, total_zero, and_both, and_false, is_zero, not_true, or_first, or_later, same_text_is, is_lot_is, is_lot_refl, is_lot_turned, AreApart, AllFound, all_found, any_found, apart-filter, AllBelow, AreFalling, same_known, lots_apart, lots_found, lots_numbered, found_lot, any_some}
 use Rattle.rules.proofs.rows.DemandsTold.{same_total}
 use Rattle.rules.proofs.rows.FoundRows.{found_passes, find_kept, same_finds, kept_once}
 use Rattle.rules.proofs.rows.Ordering.{all_in_order}
@@ -67,10 +44,6 @@ some_of : {X : Type 0} (x : Option X) → is_some x ≡ true → (y : X) × (x �
 some_of None e = let f : false ≡ true = e in cc
 some_of (Some y) e = (y, refl)
 
-nothing_each : {X : Type 0} (xs : List X) → total (λ (x : X). 0) xs ≡ 0
-nothing_each [] = refl
-nothing_each (x ∷ xs) = omega (arith, nothing_each xs)
-
 -- What the plan reserves for a booking, lot by lot
 
 module _ (first : ℤ) (acts : List Act) (g : List ℕ) (b : ℕ) where
@@ -96,7 +69,7 @@ module _ (first : ℤ) (acts : List Act) (g : List ℕ) (b : ℕ) where
       let x = some_of (find (λ (k : KnownLot). r.lot == k.came) (lots_of acts g)) (any_found (λ (k : KnownLot). r.lot == k.came) (lots_of acts g) ∙ h) in
       picked (λ m n. m == n) eqb-true equal_turned (λ (k : KnownLot). k.came) r.lot (λ k. r.qty) (lots_of acts g) x.0
       (once_apart (λ m n. m == n) eqb-true equal_turned (λ (k : KnownLot). k.came) (lots_of acts g) (apart-filter (λ (j k : KnownLot). j.came == k.came) (λ (k : KnownLot). of_item g k.lot) (lots acts) (numbers_apart (lots acts) (lots_numbered acts).falling))) x.1
-  one_lot r h false = nothing_each (lots_of acts g)
+  one_lot r h false = total_zero (lots_of acts g)
 
   each_row : (rows : List Row) → AllByRecursion (λ (r : Row). IsThere r.lot) rows
       → total (λ (r : Row). total (λ (k : KnownLot). if (r.booking == b) && (r.lot == k.came) then r.qty else 0) (lots_of acts g)) rows ≡ total (λ (r : Row). if r.booking == b then r.qty else 0) rows

@@ -1,44 +1,11 @@
 -- The rows of a slice after an act by which one lot stops being shippable: what was staged of it stands in RETURNS.
-use Rattle.std.proofs.Common.{◌≡◌, ℕ, ◌≤◌, true, false, ◌&&◌, List, [], ◌∷◌, ◌++◌, refl, ap, sym, ◌∙◌, arith, eq-eqb}
-use Rattle.std.specs.Prelude.{◌==◌, ◌||◌, if◌then◌else◌, Some, None, find, length, option_map, nat_le, codes, decimal, ℤ}
-use Rattle.std.specs.List.{list_any}
-use Rattle.values.specs.Values.{same_text}
-use Rattle.values.specs.declared.lot.LotId.{LotId}
-use Rattle.commands.specs.Lists.{total}
-use Rattle.commands.specs.declared.limits.TheConstants.{ACTS_MAX}
-use Rattle.commands.specs.declared.command.NewBin.{NewBin}
-use Rattle.commands.specs.declared.rows.BinRow.{BinRow}
-use Rattle.commands.specs.declared.rows.LotRow.{LotRow}
-use Rattle.commands.specs.declared.rows.RecallRow.{RecallRow}
-use Rattle.commands.specs.declared.rows.StockRow.{StockRow}
-use Rattle.commands.specs.declared.rows.StagedRow.{StagedRow}
-use Rattle.commands.specs.declared.rows.OrderRow.{OrderRow}
-use Rattle.commands.specs.declared.rows.LineRow.{LineRow}
-use Rattle.machine.specs.Acts.{Act, next_number}
-use Rattle.machine.specs.Postings.{is_lot, of_item}
-use Rattle.machine.specs.Standing.{RETURNS, has_line}
-use Rattle.machine.specs.Ledger.{postings}
-use Rattle.machine.specs.Planning.{in_bin, staged_of_lot, is_open}
-use Rattle.machine.specs.Replies.{reply, further_field, returned_field, units_returned}
-use Rattle.machine.specs.Once.{IsHistory}
-use Rattle.machine.specs.Tables.{tables_of, if_any, bin_row, lot_row, recall_row, stock_row, order_row, line_row, staged_row}
-use Rattle.machine.specs.Touched.{is_touched}
-use Rattle.machine.specs.KeyedRows.{AreRows, LotBin, OrderLot, no_two, same_cell, same_line, same_share}
-use Rattle.rules.specs.Slices.{IsSlice, changed, plans, names_lot, in_bins, on_stages}
-use Rattle.row_rules.specs.SeenLots.{stock_put, stock_gone}
-use Rattle.lot_rules.specs.DecidedHold.{staged_of_seen, staged_kept, staged_returned, units_in_returns, returned_put, stock_with_returned, returns_bin_row, bins_with_returns, returned_reply}
-use Rattle.row_rules.specs.declared.slice.Slice.{Slice}
-use Rattle.machine.proofs.Tests.{and_both, or_first, or_later, is_zero, same_text_refl, same_text_is, is_lot_is, is_lot_item}
-use Rattle.machine.proofs.histories.Cells.{holds}
-use Rattle.machine.proofs.histories.LegalHistories.{legal_history}
-use Rattle.machine.proofs.histories.ReturnsBin.{returns_named}
+use Rattle.rules.proofs.Words.{◌≡◌, ℕ, ◌≤◌, true, false, ◌&&◌, List, [], ◌∷◌, ◌++◌, refl, ap, sym, ◌∙◌, arith, eq-eqb, ◌==◌, ◌||◌, if◌then◌else◌, Some, None, find, length, option_map, nat_le, codes, decimal, ℤ, list_any, same_text, LotId, total, ACTS_MAX, NewBin, BinRow, LotRow, RecallRow, StockRow, StagedRow, OrderRow, LineRow, Act, next_number, is_lot, of_item, RETURNS, has_line, postings, in_bin, staged_of_lot, is_open, reply, further_field, returned_field, units_returned, IsHistory, tables_of, if_any, bin_row, lot_row, recall_row, stock_row, order_row, line_row, staged_row, is_touched, AreRows, LotBin, OrderLot, no_two, same_cell, same_line, same_share, IsSlice, changed, plans, names_lot, in_bins, on_stages, stock_put, stock_gone, staged_of_seen, staged_kept, staged_returned, units_in_returns, returned_put, stock_with_returned, returns_bin_row, bins_with_returns, returned_reply, Slice, and_both, or_first, or_later, is_zero, same_text_refl, same_text_is, is_lot_is, is_lot_item, holds, legal_history, returns_named, staged_holds, MakesUnshippable, stages_of, unstaged, staged_still, in_bin_still, in_returns, all_returned, open_still, line_still, order_row_still, line_row_still, rows_after_return}
 use Rattle.rules.proofs.rows.AfterRows.{loosened}
 use Rattle.rules.proofs.rows.DemandsTold.{TellsDemands}
 use Rattle.rules.proofs.rows.DroppedRows.{rows_left, dropped_at}
 use Rattle.rules.proofs.rows.LotTold.{found_stock, in_bin_told}
 use Rattle.rules.proofs.rows.LotUnits.{bin_within_limit}
 use Rattle.rules.proofs.rows.Planned.{no_pick}
-use Rattle.machine.proofs.histories.PlaceRows.{staged_holds}
 use Rattle.rules.proofs.rows.SameKeys.{same_share_is}
 use Rattle.rules.proofs.rows.ClassesTold.{same_urgents}
 use Rattle.rules.proofs.rows.SliceDemands.{slice_tells_stages, slice_tells_demands}
@@ -46,7 +13,6 @@ use Rattle.rules.proofs.rows.SliceSupplies.{slice_tells_supplies, is_wanted}
 use Rattle.rules.proofs.rows.SliceTells.{names_touched}
 use Rattle.rules.proofs.rows.StockChanged.{with_units, stock_rows_are, bins_with, lots_with, cell_changed, stock_row_with}
 use Rattle.rules.proofs.rows.SuppliesTold.{TellsSupplies, in_stock}
-use Rattle.machine.proofs.histories.UnshippableLots.{MakesUnshippable, stages_of, unstaged, staged_still, in_bin_still, in_returns, all_returned, open_still, line_still, order_row_still, line_row_still}
 use Rattle.rules.proofs.decided.Decisions.{number_same}
 
 pub still_some : (a b : ℕ) → (a == 0) ≡ false → a ≤ b → (b == 0) ≡ false
@@ -152,8 +118,8 @@ module _ (first : ℤ) (acts : List Act) (act : Act) (l : LotId) (s : Slice) (sl
 
   -- The demands and supplies of its item
 
-  pub demands_after : TellsDemands first after g s.rows.orders s.rows.lines (staged_kept s l) s.rows.urgents
-  demands_after =
+  pub demands_after : (lots : List LotRow) (recalls : List RecallRow) → TellsDemands first after g (rows_after_return s l lots recalls)
+  demands_after lots recalls =
       let before = slice_tells_demands first acts act s slice planned g touched in
       let wanted : (o : List ℕ) → is_open first after o && has_line after o g ≡ true → is_open first acts o && has_line acts o g ≡ true = λ o e. (λ i. open_still first acts act l makes next o i && line_still first acts act l makes next o g i) ∙ e in
       record {
@@ -193,7 +159,7 @@ module _ (first : ℤ) (acts : List Act) (act : Act) (l : LotId) (s : Slice) (sl
 
   pub supplies_after : (lots : List LotRow) (recalls : List RecallRow) → AreRows is_lot (λ (r : LotRow). r.lot) (is_wanted act.command s.rows g) (λ m. true) (lot_row after) lots
       → ((m : LotId) → of_item g m ≡ true → find (λ (r : RecallRow). is_lot m r.lot) recalls ≡ recall_row after m)
-      → TellsSupplies first after g lots recalls (stock_with_returned s l) (bins_with_returns s)
+      → TellsSupplies first after g (rows_after_return s l lots recalls)
   supplies_after lots recalls lots_are recalls_are = record {
     lots = loosened is_lot (λ (r : LotRow). r.lot) (is_wanted act.command s.rows g) (in_stock g (stock_with_returned s l)) (λ m. true) (λ m. true) (lot_row after) (lot_row after) lots still_wanted (λ m e. e) (λ m. refl) lots_are;
     recalls = recalls_are;

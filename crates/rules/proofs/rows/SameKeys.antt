@@ -1,9 +1,5 @@
 -- Keys of two parts are the same where both parts are.
-use Rattle.std.proofs.Common.{◌≡◌, true, ◌&&◌}
-use Rattle.values.specs.Values.{same_text}
-use Rattle.machine.specs.Postings.{is_lot}
-use Rattle.machine.specs.KeyedRows.{LotBin, OrderItem, OrderLot, same_cell, same_line, same_share}
-use Rattle.machine.proofs.Tests.{and_both, same_text_is, same_text_refl, same_text_turned, is_lot_is, is_lot_refl, is_lot_turned}
+use Rattle.rules.proofs.Words.{◌≡◌, true, ◌&&◌, same_text, is_lot, LotBin, OrderItem, OrderLot, same_cell, same_line, same_share, and_both, same_text_is, same_text_refl, same_text_turned, is_lot_is, is_lot_refl, is_lot_turned}
 
 -- a lot in a bin
 

@@ -1,39 +1,11 @@
 -- The plan's rows by names are the reserved rows of the item.
-use Rattle.std.proofs.Common.{◌≡◌, ℕ, Bool, true, false, ◌&&◌, not, List, [], ◌∷◌, refl, ap, sym, ◌∙◌, arith, eq-eqb, inl, inr}
-use Rattle.std.specs.Prelude.{◌==◌, ◌||◌, if◌then◌else◌, ℤ, Option, Some, None, find, filter, map, option_map, ◌⊎◌}
-use Rattle.std.specs.List.{list_any, cons_option}
-use Rattle.std.proofs.lemmas.Bool.{eqb-true}
-use Rattle.values.specs.Values.{same_text}
-use Rattle.values.specs.declared.lot.LotId.{LotId}
-use Rattle.commands.specs.Lists.{total}
-use Rattle.commands.specs.declared.rows.OrderRow.{OrderRow}
-use Rattle.commands.specs.declared.rows.LotRow.{LotRow}
-use Rattle.commands.specs.declared.rows.RecallRow.{RecallRow}
-use Rattle.commands.specs.declared.rows.StockRow.{StockRow}
-use Rattle.commands.specs.declared.rows.BinRow.{BinRow}
-use Rattle.commands.specs.declared.rows.ReservedRow.{ReservedRow}
-use Rattle.plan.specs.declared.Row.{Row}
-use Rattle.plan.specs.Overlap.{reserved_in}
-use Rattle.machine.specs.Acts.{Act}
-use Rattle.machine.specs.Postings.{is_lot, of_item}
-use Rattle.machine.specs.Standing.{Placed, KnownLot, order_named, lot_known, lines_placed, orders, lots, has_line, is_held}
-use Rattle.machine.specs.Planning.{plan, reserved, reserved_of, is_open, order_state, item_postings, need, booking_of}
-use Rattle.machine.specs.Once.{IsHistory}
-use Rattle.machine.specs.Tables.{order_row, lot_row}
-use Rattle.machine.specs.KeyedRows.{AreOwn, no_two}
-use Rattle.row_rules.specs.Plans.{named_row, named_rows, is_share_of}
-use Rattle.machine.proofs.Tests.{and_both, or_none, not_true, same_text_is, same_text_refl, is_lot_is, is_lot_refl, some_one}
-use Rattle.machine.proofs.histories.Orders.{act_names_order, found_order}
-use Rattle.machine.proofs.histories.Lots.{receipt_names_lot, found_lot}
-use Rattle.machine.proofs.histories.Needs.{reserved_within_needs}
-use Rattle.machine.proofs.histories.ClosedOrders.{closed_orders_are_empty}
+use Rattle.rules.proofs.Words.{◌≡◌, ℕ, Bool, true, false, ◌&&◌, not, List, [], ◌∷◌, refl, ap, sym, ◌∙◌, arith, eq-eqb, inl, inr, ◌==◌, ◌||◌, if◌then◌else◌, ℤ, Option, Some, None, find, filter, map, option_map, ◌⊎◌, list_any, cons_option, eqb-true, same_text, LotId, total, OrderRow, LotRow, ReservedRow, Row, reserved_in, Act, is_lot, of_item, Placed, KnownLot, order_named, lot_known, lines_placed, orders, lots, has_line, is_held, plan, reserved, reserved_of, is_open, order_state, item_postings, need, booking_of, IsHistory, order_row, lot_row, AreOwn, no_two, named_row, named_rows, is_share_of, and_both, or_none, not_true, same_text_is, same_text_refl, is_lot_is, is_lot_refl, some_one, act_names_order, found_order, receipt_names_lot, found_lot, reserved_within_needs, closed_orders_are_empty, same_pair, AllSome, plan_once, plan_some, Rows}
 use Rattle.rules.proofs.rows.Telling.{some_of_mapped}
 use Rattle.rules.proofs.rows.DemandsTold.{no_line}
 use Rattle.rules.proofs.rows.SuppliesTold.{TellsSupplies, in_stock, none_in_store}
 use Rattle.rules.proofs.rows.TableSteps.{share_row}
 use Rattle.rules.proofs.rows.replanned.Pairs.{none_else}
 use Rattle.rules.proofs.rows.replanned.Unreserved.{none_reserved}
-use Rattle.machine.proofs.histories.PlanRows.{same_pair, AllSome, plan_once, plan_some}
 
 -- Rows found by their numbers
 
@@ -225,9 +197,8 @@ module _ (first : ℤ) (acts : List Act) where
               | false ↦ λ u. h ∙ ap (share_row o l) (sym (without t))
             ] refl
 
-module _ (first : ℤ) (acts : List Act) (history : IsHistory first acts) (g : List ℕ) (order_rows : List OrderRow) (lot_rows : List LotRow) (recall_rows : List RecallRow) (stock_rows : List StockRow) (bin_rows : List BinRow)
-    (orders_own : AreOwn (λ (r : OrderRow). r.order) (λ o. true) (order_row first acts) order_rows) (tells : TellsSupplies first acts g lot_rows recall_rows stock_rows bin_rows) where
-  module _ (o : List ℕ) (l : LotId) (own : of_item g l ≡ true) (found : is_open first acts o && has_line acts o g ≡ true → find (λ (r : OrderRow). same_text o r.order) order_rows ≡ order_row first acts o) where
+module _ (first : ℤ) (acts : List Act) (history : IsHistory first acts) (g : List ℕ) (read : Rows) (orders_own : AreOwn (λ (r : OrderRow). r.order) (λ o. true) (order_row first acts) read.orders) (tells : TellsSupplies first acts g read) where
+  module _ (o : List ℕ) (l : LotId) (own : of_item g l ≡ true) (found : is_open first acts o && has_line acts o g ≡ true → find (λ (r : OrderRow). same_text o r.order) read.orders ≡ order_row first acts o) where
     same_item : g ≡ l.gtin
     same_item = same_text_is g l.gtin own
 
@@ -247,48 +218,48 @@ module _ (first : ℤ) (acts : List Act) (history : IsHistory first acts) (g : L
         ] refl e
 
     -- a needed order's row and the row of a lot in stock are found by number
-    all_named : (p : Placed) (k : KnownLot) → order_named acts o ≡ Some p → lot_known acts l ≡ Some k → in_stock g stock_rows l ≡ true → is_open first acts o && has_line acts o g ≡ true
-        → (r : Row) → (r.booking == p.act) && (r.lot == k.came) ≡ true → name_of first acts order_rows lot_rows orders_own tells.lots.own r ≡ Some (record { order = o; lot = l; qty = r.qty })
+    all_named : (p : Placed) (k : KnownLot) → order_named acts o ≡ Some p → lot_known acts l ≡ Some k → in_stock g read.stock l ≡ true → is_open first acts o && has_line acts o g ≡ true
+        → (r : Row) → (r.booking == p.act) && (r.lot == k.came) ≡ true → name_of first acts read.orders read.lots orders_own tells.lots.own r ≡ Some (record { order = o; lot = l; qty = r.qty })
     all_named p k order lot there needed r e =
         let two = and_both (r.booking == p.act) (r.lot == k.came) e in
-        let x = by_number (λ (r : OrderRow). r.order) (λ (r : OrderRow). r.act) (order_row first acts) (one_order first acts) order_rows orders_own (λ r. same_text o r.order) (show_order first acts p)
+        let x = by_number (λ (r : OrderRow). r.order) (λ (r : OrderRow). r.act) (order_row first acts) (one_order first acts) read.orders orders_own (λ r. same_text o r.order) (show_order first acts p)
         (found needed ∙ ap (option_map (show_order first acts)) order) in
-        let y = by_number (λ (r : LotRow). r.lot) (λ (r : LotRow). r.came) (lot_row acts) (one_lot first acts) lot_rows tells.lots.own (λ r. is_lot l r.lot) (show_lot first acts k)
+        let y = by_number (λ (r : LotRow). r.lot) (λ (r : LotRow). r.came) (lot_row acts) (one_lot first acts) read.lots tells.lots.own (λ r. is_lot l r.lot) (show_lot first acts k)
         (tells.lots.found l there ∙ ap (option_map (show_lot first acts)) lot) in
-        (λ i. named_row (find (λ (z : OrderRow). eqb-true r.booking p.act two.0 i == z.act) order_rows) (find (λ (z : LotRow). eqb-true r.lot k.came two.1 i == z.came) lot_rows) r.qty)
+        (λ i. named_row (find (λ (z : OrderRow). eqb-true r.booking p.act two.0 i == z.act) read.orders) (find (λ (z : LotRow). eqb-true r.lot k.came two.1 i == z.came) read.lots) r.qty)
         ∙ (λ i. named_row (x i) (y i) r.qty)
         ∙ (λ i. Some (record { order = sym (found_order o (orders acts) p order) i; lot = sym (found_lot l (lots acts) k lot) i; qty = r.qty }))
 
-    by_stock : (p : Placed) (k : KnownLot) → order_named acts o ≡ Some p → lot_known acts l ≡ Some k → (b : Bool) → in_stock g stock_rows l ≡ b
-        → ((r : Row) → (r.booking == p.act) && (r.lot == k.came) ≡ true → name_of first acts order_rows lot_rows orders_own tells.lots.own r ≡ Some (record { order = o; lot = l; qty = r.qty })) ⊎ (reserved_in p.act k.came (plan first acts g) ≡ 0)
+    by_stock : (p : Placed) (k : KnownLot) → order_named acts o ≡ Some p → lot_known acts l ≡ Some k → (b : Bool) → in_stock g read.stock l ≡ b
+        → ((r : Row) → (r.booking == p.act) && (r.lot == k.came) ≡ true → name_of first acts read.orders read.lots orders_own tells.lots.own r ≡ Some (record { order = o; lot = l; qty = r.qty })) ⊎ (reserved_in p.act k.came (plan first acts g) ≡ 0)
     by_stock p k e f true there =
         elim (is_open first acts o && has_line acts o g) as (λ b. is_open first acts o && has_line acts o g ≡ b
-        → ((r : Row) → (r.booking == p.act) && (r.lot == k.came) ≡ true → name_of first acts order_rows lot_rows orders_own tells.lots.own r ≡ Some (record { order = o; lot = l; qty = r.qty })) ⊎ (reserved_in p.act k.came (plan first acts g) ≡ 0)) [
+        → ((r : Row) → (r.booking == p.act) && (r.lot == k.came) ≡ true → name_of first acts read.orders read.lots orders_own tells.lots.own r ≡ Some (record { order = o; lot = l; qty = r.qty })) ⊎ (reserved_in p.act k.came (plan first acts g) ≡ 0)) [
           | true ↦ λ t. inl (all_named p k e f there t)
           | false ↦ λ t. inr ((λ i. reserved_of (sym e i) (sym f i) (plan first acts g)) ∙ sym by_plan ∙ unneeded p e t)
         ] refl
     by_stock p k e f false none =
-        inr (none_reserved first acts g l (λ own. none_in_store first acts history g lot_rows recall_rows stock_rows bin_rows tells l own none) k f p.act)
+        inr (none_reserved first acts g l (λ own. none_in_store first acts history g read tells l own none) k f p.act)
 
   -- Rows of the plan, as far as what is not reserved in the plan is not reserved in them
 
   module _ (rest : List Row) (rest_some : AllSome rest) (rest_once : no_two same_pair rest ≡ true) (none_behind : (b k : ℕ) → reserved_in b k (plan first acts g) ≡ 0 → reserved_in b k rest ≡ 0) where
-    pub behind_once : no_two is_share_of (named_rows order_rows lot_rows rest) ≡ true
-    behind_once = named_once first acts order_rows lot_rows orders_own tells.lots.own rest rest_once
+    pub behind_once : no_two is_share_of (named_rows read.orders read.lots rest) ≡ true
+    behind_once = named_once first acts read.orders read.lots orders_own tells.lots.own rest rest_once
 
-    module _ (o : List ℕ) (l : LotId) (own : of_item g l ≡ true) (found : is_open first acts o && has_line acts o g ≡ true → find (λ (r : OrderRow). same_text o r.order) order_rows ≡ order_row first acts o) where
+    module _ (o : List ℕ) (l : LotId) (own : of_item g l ≡ true) (found : is_open first acts o && has_line acts o g ≡ true → find (λ (r : OrderRow). same_text o r.order) read.orders ≡ order_row first acts o) where
       told : (x : Option Placed) (y : Option KnownLot) → order_named acts o ≡ x → lot_known acts l ≡ y
-          → find (λ (r : ReservedRow). same_text o r.order && is_lot l r.lot) (named_rows order_rows lot_rows rest) ≡ share_row o l (reserved_of x y rest)
-      told None y e f = all_fail first acts order_rows lot_rows orders_own tells.lots.own o l (λ r n h t. let a = passing first acts order_rows lot_rows orders_own tells.lots.own o l r n h t in cc) rest
-      told (Some p) None e f = all_fail first acts order_rows lot_rows orders_own tells.lots.own o l (λ r n h t. let a = passing first acts order_rows lot_rows orders_own tells.lots.own o l r n h t in let b = a.3.1 in cc) rest
-      told (Some p) (Some k) e f = told_by first acts order_rows lot_rows orders_own tells.lots.own o l p k e f rest rest_some rest_once (in_rest (by_stock o l own found p k e f (in_stock g stock_rows l) refl))
+          → find (λ (r : ReservedRow). same_text o r.order && is_lot l r.lot) (named_rows read.orders read.lots rest) ≡ share_row o l (reserved_of x y rest)
+      told None y e f = all_fail first acts read.orders read.lots orders_own tells.lots.own o l (λ r n h t. let a = passing first acts read.orders read.lots orders_own tells.lots.own o l r n h t in cc) rest
+      told (Some p) None e f = all_fail first acts read.orders read.lots orders_own tells.lots.own o l (λ r n h t. let a = passing first acts read.orders read.lots orders_own tells.lots.own o l r n h t in let b = a.3.1 in cc) rest
+      told (Some p) (Some k) e f = told_by first acts read.orders read.lots orders_own tells.lots.own o l p k e f rest rest_some rest_once (in_rest (by_stock o l own found p k e f (in_stock g read.stock l) refl))
         where
-          in_rest : ((r : Row) → (r.booking == p.act) && (r.lot == k.came) ≡ true → name_of first acts order_rows lot_rows orders_own tells.lots.own r ≡ Some (record { order = o; lot = l; qty = r.qty })) ⊎ (reserved_in p.act k.came (plan first acts g) ≡ 0)
-              → ((r : Row) → (r.booking == p.act) && (r.lot == k.came) ≡ true → name_of first acts order_rows lot_rows orders_own tells.lots.own r ≡ Some (record { order = o; lot = l; qty = r.qty })) ⊎ (reserved_in p.act k.came rest ≡ 0)
+          in_rest : ((r : Row) → (r.booking == p.act) && (r.lot == k.came) ≡ true → name_of first acts read.orders read.lots orders_own tells.lots.own r ≡ Some (record { order = o; lot = l; qty = r.qty })) ⊎ (reserved_in p.act k.came (plan first acts g) ≡ 0)
+              → ((r : Row) → (r.booking == p.act) && (r.lot == k.came) ≡ true → name_of first acts read.orders read.lots orders_own tells.lots.own r ≡ Some (record { order = o; lot = l; qty = r.qty })) ⊎ (reserved_in p.act k.came rest ≡ 0)
           in_rest (inl all) = inl all
           in_rest (inr none) = inr (none_behind p.act k.came none)
 
-      pub behind_told : find (λ (r : ReservedRow). same_text o r.order && is_lot l r.lot) (named_rows order_rows lot_rows rest) ≡ share_row o l (reserved_of (order_named acts o) (lot_known acts l) rest)
+      pub behind_told : find (λ (r : ReservedRow). same_text o r.order && is_lot l r.lot) (named_rows read.orders read.lots rest) ≡ share_row o l (reserved_of (order_named acts o) (lot_known acts l) rest)
       behind_told = told (order_named acts o) (lot_known acts l) refl refl
 
     -- a lot of another item has no share
@@ -297,24 +268,24 @@ module _ (first : ℤ) (acts : List Act) (history : IsHistory first acts) (g : L
       none_of_other k known b = none_behind b k.came (none_reserved first acts g l (λ own. let f : true ≡ false = sym own ∙ other in cc) k known b)
 
       none_told : (x : Option Placed) (y : Option KnownLot) → order_named acts o ≡ x → lot_known acts l ≡ y
-          → find (λ (r : ReservedRow). same_text o r.order && is_lot l r.lot) (named_rows order_rows lot_rows rest) ≡ None
-      none_told None y e f = all_fail first acts order_rows lot_rows orders_own tells.lots.own o l (λ r n h t. let a = passing first acts order_rows lot_rows orders_own tells.lots.own o l r n h t in cc) rest
-      none_told (Some p) None e f = all_fail first acts order_rows lot_rows orders_own tells.lots.own o l (λ r n h t. let a = passing first acts order_rows lot_rows orders_own tells.lots.own o l r n h t in let b = a.3.1 in cc) rest
+          → find (λ (r : ReservedRow). same_text o r.order && is_lot l r.lot) (named_rows read.orders read.lots rest) ≡ None
+      none_told None y e f = all_fail first acts read.orders read.lots orders_own tells.lots.own o l (λ r n h t. let a = passing first acts read.orders read.lots orders_own tells.lots.own o l r n h t in cc) rest
+      none_told (Some p) None e f = all_fail first acts read.orders read.lots orders_own tells.lots.own o l (λ r n h t. let a = passing first acts read.orders read.lots orders_own tells.lots.own o l r n h t in let b = a.3.1 in cc) rest
       none_told (Some p) (Some k) e f =
-          told_by first acts order_rows lot_rows orders_own tells.lots.own o l p k e f rest rest_some rest_once (inr (none_of_other k f p.act))
+          told_by first acts read.orders read.lots orders_own tells.lots.own o l p k e f rest rest_some rest_once (inr (none_of_other k f p.act))
           ∙ ap (share_row o l) (none_of_other k f p.act)
 
-      pub behind_elsewhere : find (λ (r : ReservedRow). same_text o r.order && is_lot l r.lot) (named_rows order_rows lot_rows rest) ≡ None
+      pub behind_elsewhere : find (λ (r : ReservedRow). same_text o r.order && is_lot l r.lot) (named_rows read.orders read.lots rest) ≡ None
       behind_elsewhere = none_told (order_named acts o) (lot_known acts l) refl refl
 
   -- The whole plan
 
-  pub shares_once : no_two is_share_of (named_rows order_rows lot_rows (plan first acts g)) ≡ true
+  pub shares_once : no_two is_share_of (named_rows read.orders read.lots (plan first acts g)) ≡ true
   shares_once = behind_once (plan first acts g) (plan_some first acts history g) (plan_once first acts history g) (λ b k e. e)
 
-  pub shares_told : (o : List ℕ) (l : LotId) → of_item g l ≡ true → (is_open first acts o && has_line acts o g ≡ true → find (λ (r : OrderRow). same_text o r.order) order_rows ≡ order_row first acts o)
-      → find (λ (r : ReservedRow). same_text o r.order && is_lot l r.lot) (named_rows order_rows lot_rows (plan first acts g)) ≡ share_row o l (reserved first acts o l)
+  pub shares_told : (o : List ℕ) (l : LotId) → of_item g l ≡ true → (is_open first acts o && has_line acts o g ≡ true → find (λ (r : OrderRow). same_text o r.order) read.orders ≡ order_row first acts o)
+      → find (λ (r : ReservedRow). same_text o r.order && is_lot l r.lot) (named_rows read.orders read.lots (plan first acts g)) ≡ share_row o l (reserved first acts o l)
   shares_told o l own found = behind_told (plan first acts g) (plan_some first acts history g) (plan_once first acts history g) (λ b k e. e) o l own found ∙ ap (share_row o l) (sym (by_plan o l own found))
 
-  pub shares_elsewhere : (o : List ℕ) (l : LotId) → of_item g l ≡ false → find (λ (r : ReservedRow). same_text o r.order && is_lot l r.lot) (named_rows order_rows lot_rows (plan first acts g)) ≡ None
+  pub shares_elsewhere : (o : List ℕ) (l : LotId) → of_item g l ≡ false → find (λ (r : ReservedRow). same_text o r.order && is_lot l r.lot) (named_rows read.orders read.lots (plan first acts g)) ≡ None
   shares_elsewhere o l other = behind_elsewhere (plan first acts g) (plan_some first acts history g) (plan_once first acts history g) (λ b k e. e) o l other

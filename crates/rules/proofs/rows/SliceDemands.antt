@@ -1,23 +1,5 @@
 -- The rows of a slice tell what is staged of each item that the command touches, unless it is a pick, and its demands if it plans.
-use Rattle.std.proofs.Common.{◌≡◌, ℕ, true, false, ◌&&◌, not, List, [], ◌∷◌, refl, ap, sym, ◌∙◌}
-use Rattle.std.specs.Prelude.{◌||◌, ℤ, find}
-use Rattle.std.specs.List.{list_any}
-use Rattle.values.specs.Values.{same_text}
-use Rattle.commands.specs.declared.command.OrderLine.{OrderLine}
-use Rattle.commands.specs.declared.rows.OrderRow.{OrderRow}
-use Rattle.commands.specs.declared.rows.UrgentRow.{UrgentRow}
-use Rattle.commands.specs.declared.rows.LineRow.{LineRow}
-use Rattle.commands.specs.declared.rows.StagedRow.{StagedRow}
-use Rattle.machine.specs.Acts.{Act}
-use Rattle.machine.specs.Postings.{of_item}
-use Rattle.machine.specs.Standing.{has_line, lines_of}
-use Rattle.machine.specs.Planning.{is_open}
-use Rattle.machine.specs.Tables.{tables_of, order_row, urgent_row, line_row, staged_row}
-use Rattle.machine.specs.Touched.{is_touched}
-use Rattle.machine.specs.KeyedRows.{AreRows, OrderItem, OrderLot, same_line, same_share}
-use Rattle.rules.specs.Slices.{IsSlice, picks, plans, has_touched_line, names_order, names_lot}
-use Rattle.row_rules.specs.declared.slice.Slice.{Slice}
-use Rattle.machine.proofs.Tests.{and_both, or_first, or_later, same_text_is}
+use Rattle.rules.proofs.Words.{◌≡◌, ℕ, true, false, ◌&&◌, not, List, [], ◌∷◌, refl, ap, sym, ◌∙◌, ◌||◌, ℤ, find, list_any, same_text, OrderLine, OrderRow, UrgentRow, LineRow, StagedRow, Act, of_item, has_line, lines_of, is_open, tables_of, order_row, urgent_row, line_row, staged_row, is_touched, AreRows, OrderItem, OrderLot, same_line, same_share, IsSlice, picks, plans, has_touched_line, names_order, names_lot, Slice, and_both, or_first, or_later, same_text_is}
 use Rattle.rules.proofs.rows.AfterRows.{loosened}
 use Rattle.rules.proofs.rows.DemandsTold.{TellsDemands}
 use Rattle.rules.proofs.rows.Planned.{no_pick}
@@ -62,7 +44,7 @@ module _ (first : ℤ) (acts : List Act) (act : Act) (s : Slice) (slice : IsSlic
       let two = and_both (is_open first acts o) (has_line acts o g) e in
       slice.urgents.found o (λ i. planned i && two.0 i && line_touched first acts act s slice g touched (lines_of acts o) two.1 i)
 
-  pub slice_tells_demands : TellsDemands first acts g s.rows.orders s.rows.lines s.rows.staged s.rows.urgents
+  pub slice_tells_demands : TellsDemands first acts g s.rows
   slice_tells_demands = record {
     orders = loosened same_text (λ (r : OrderRow). r.order) _ (λ o. is_open first acts o && has_line acts o g) _ (λ o. true) (order_row first acts) (order_row first acts) s.rows.orders
         (λ o e. let two = and_both (is_open first acts o) (has_line acts o g) e in or_later (names_order act.command o) _ (λ i. planned i && two.0 i && line_touched first acts act s slice g touched (lines_of acts o) two.1 i)) (λ o e. refl) (λ o. refl) order_are;

@@ -1,23 +1,5 @@
 -- The rows of a slice tell the supplies of each item that the command touches, if it plans.
-use Rattle.std.proofs.Common.{◌≡◌, ℕ, Bool, true, ◌&&◌, not, List, refl, ap, sym, ◌∙◌}
-use Rattle.std.specs.Prelude.{◌||◌, ℤ, find}
-use Rattle.std.specs.List.{list_any}
-use Rattle.values.specs.Values.{same_text}
-use Rattle.values.specs.declared.lot.LotId.{LotId}
-use Rattle.commands.specs.declared.command.Command.{Command}
-use Rattle.commands.specs.declared.rows.LotRow.{LotRow}
-use Rattle.commands.specs.declared.rows.RecallRow.{RecallRow}
-use Rattle.commands.specs.declared.rows.StockRow.{StockRow}
-use Rattle.commands.specs.declared.rows.BinRow.{BinRow}
-use Rattle.machine.specs.Acts.{Act}
-use Rattle.machine.specs.Postings.{is_lot, of_item}
-use Rattle.machine.specs.Tables.{tables_of, lot_row, recall_row, stock_row, bin_row}
-use Rattle.machine.specs.Touched.{is_touched}
-use Rattle.machine.specs.KeyedRows.{AreRows, LotBin, same_cell}
-use Rattle.rules.specs.Slices.{IsSlice, ships, plans, names_bin, names_lot, in_bins, on_stages, on_named_stage}
-use Rattle.row_rules.specs.declared.slice.Rows.{Rows}
-use Rattle.row_rules.specs.declared.slice.Slice.{Slice}
-use Rattle.machine.proofs.Tests.{and_both, or_first, or_later, same_text_is}
+use Rattle.rules.proofs.Words.{◌≡◌, ℕ, Bool, true, ◌&&◌, not, List, refl, ap, sym, ◌∙◌, ◌||◌, ℤ, find, list_any, same_text, LotId, Command, LotRow, RecallRow, StockRow, BinRow, Act, is_lot, of_item, tables_of, lot_row, recall_row, stock_row, bin_row, is_touched, AreRows, LotBin, same_cell, IsSlice, ships, plans, names_bin, names_lot, in_bins, on_stages, on_named_stage, Rows, Slice, and_both, or_first, or_later, same_text_is}
 use Rattle.rules.proofs.rows.AfterRows.{loosened}
 use Rattle.rules.proofs.rows.Planned.{no_shipment, asked_if_planned, or_grouped}
 use Rattle.rules.proofs.rows.SuppliesTold.{TellsSupplies, in_stock}
@@ -62,7 +44,7 @@ module _ (first : ℤ) (acts : List Act) (act : Act) (s : Slice) (slice : IsSlic
   unfolding tables_of
   bins_are b e = slice.bins.found b (asked_if_planned act.command planned (names_bin act.command b) _ (or_later (names_bin act.command b) _ e))
 
-  pub slice_tells_supplies : TellsSupplies first acts g s.rows.lots s.rows.recalls s.rows.stock s.rows.bins
+  pub slice_tells_supplies : TellsSupplies first acts g s.rows
   slice_tells_supplies = record {
     lots = lots_with_stock s.rows.stock (λ l e. or_later (names_lot act.command l) (in_bins s.rows l) e);
     recalls = recalls_are;

@@ -1,21 +1,5 @@
 -- What the slice of any command but a shipment tells of the items, bins and lots that it touches.
-use Rattle.std.proofs.Common.{◌≡◌, ℕ, true, false, ◌&&◌, not, List, refl, ap, ◌∙◌}
-use Rattle.std.specs.Prelude.{◌||◌, find, Option, Some, None, option_map, is_some, ℤ}
-use Rattle.std.specs.List.{list_any}
-use Rattle.values.specs.Values.{same_text}
-use Rattle.values.specs.declared.lot.LotId.{LotId}
-use Rattle.commands.specs.declared.command.Command.{Command}
-use Rattle.commands.specs.declared.command.Command.TheVariants.{Item, Bin, Receive, Move, Count, Adjust, Order, Cancel, Pick, Unpick, Ship, Hold, Release, Recall, OpenDay, Least, Urgent}
-use Rattle.machine.specs.Acts.{Act}
-use Rattle.machine.specs.Postings.{is_lot}
-use Rattle.machine.specs.Standing.{has_item, item_named, has_bin, bin_named, KnownLot, lot_known, is_held, is_recalled, recalling}
-use Rattle.machine.specs.Tables.{tables_of, item_row, bin_row, lot_row, recall_row}
-use Rattle.machine.specs.Touched.{is_touched, touches}
-use Rattle.rules.specs.Slices.{IsSlice, ships, plans, names_bin, names_lot, in_bins, on_stages}
-use Rattle.row_rules.specs.Seen.{sees_item, sees_bin, lot_seen, sees_recall, expires_otherwise_than}
-use Rattle.machine.specs.Verdict.{expires_otherwise}
-use Rattle.row_rules.specs.declared.slice.Slice.{Slice}
-use Rattle.machine.proofs.Tests.{or_first, is_lot_item}
+use Rattle.rules.proofs.Words.{◌≡◌, ℕ, true, false, ◌&&◌, not, List, refl, ap, ◌∙◌, ◌||◌, find, Option, Some, None, option_map, is_some, ℤ, list_any, same_text, LotId, Command, Item, Bin, Receive, Move, Count, Adjust, Order, Cancel, Pick, Unpick, Ship, Hold, Release, Recall, OpenDay, Least, Urgent, Act, is_lot, has_item, item_named, has_bin, bin_named, KnownLot, lot_known, is_held, is_recalled, recalling, tables_of, item_row, bin_row, lot_row, recall_row, is_touched, touches, IsSlice, ships, plans, names_bin, names_lot, in_bins, on_stages, sees_item, sees_bin, lot_seen, sees_recall, expires_otherwise_than, expires_otherwise, Slice, or_first, is_lot_item}
 
 pub some_mapped : {A B : Type 0} (f : A → B) (x : Option A) → is_some (option_map f x) ≡ is_some x
 some_mapped f None = refl

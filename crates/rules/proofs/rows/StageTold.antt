@@ -1,16 +1,6 @@
 -- What the slice of any command tells of the units of a lot that are staged for an order, if it touches the lot, and names both if it
 -- is a pick; and of those that are reserved, if it is judged by them.
-use Rattle.std.proofs.Common.{◌≡◌, ℕ, true, false, ◌&&◌, not, List, refl, ap, sym, ◌∙◌}
-use Rattle.std.specs.Prelude.{◌||◌, ◌==◌, if◌then◌else◌, ℤ, Some, None}
-use Rattle.values.specs.declared.lot.LotId.{LotId}
-use Rattle.machine.specs.Acts.{Act}
-use Rattle.machine.specs.Planning.{staged_of_lot, reserved}
-use Rattle.machine.specs.Tables.{tables_of, if_any, staged_row, reserved_row}
-use Rattle.machine.specs.Touched.{is_touched}
-use Rattle.rules.specs.Slices.{IsSlice, picks, names_order, names_lot, names_reserved}
-use Rattle.row_rules.specs.SeenStages.{reserved_qty, reserved_found, reserved_seen, staged_qty, staged_found, on_stage_seen}
-use Rattle.row_rules.specs.declared.slice.Slice.{Slice}
-use Rattle.machine.proofs.Tests.{is_zero}
+use Rattle.rules.proofs.Words.{◌≡◌, ℕ, true, false, ◌&&◌, not, List, refl, ap, sym, ◌∙◌, ◌||◌, ◌==◌, if◌then◌else◌, ℤ, Some, None, LotId, Act, staged_of_lot, reserved, tables_of, if_any, staged_row, reserved_row, is_touched, IsSlice, picks, names_order, names_lot, names_reserved, reserved_qty, reserved_found, reserved_seen, staged_qty, staged_found, on_stage_seen, Slice, is_zero}
 
 -- what a row of a quantity, if any, has
 any_staged : (q : ℕ) (o : List ℕ) (l : LotId) → staged_qty (if_any q (record { order = o; lot = l; qty = q })) ≡ q

@@ -1,17 +1,5 @@
 -- No more units of a lot are staged for an order than the limit of its item.
-use Rattle.std.proofs.Common.{◌≡◌, ◌≤◌, true, false, ◌&&◌, List, ℕ, refl, arith}
-use Rattle.std.specs.Prelude.{ℤ}
-use Rattle.values.specs.Values.{same_text}
-use Rattle.values.specs.declared.lot.LotId.{LotId}
-use Rattle.commands.specs.declared.limits.TheConstants.{UNITS_MAX}
-use Rattle.machine.specs.Acts.{Act}
-use Rattle.machine.specs.Postings.{Place, Supplier, InBin, Stage, Shipped, WriteOff, in_house, is_lot, is_stage}
-use Rattle.machine.specs.Ledger.{postings}
-use Rattle.machine.specs.Planning.{staged_of_lot}
-use Rattle.machine.specs.Once.{IsHistory}
-use Rattle.machine.proofs.Tests.{and_both, same_text_refl}
-use Rattle.machine.proofs.histories.Cells.{holds_split}
-use Rattle.machine.proofs.histories.LegalHistories.{legal_history}
+use Rattle.rules.proofs.Words.{◌≡◌, ◌≤◌, true, false, ◌&&◌, List, ℕ, refl, arith, ℤ, same_text, LotId, UNITS_MAX, Act, Place, Supplier, InBin, Stage, Shipped, WriteOff, in_house, is_lot, is_stage, postings, staged_of_lot, IsHistory, and_both, same_text_refl, holds_split, legal_history}
 use Rattle.rules.proofs.rows.LotUnits.{lot_within_limit}
 
 module _ (first : ℤ) (acts : List Act) (history : IsHistory first acts) (o : List ℕ) (l : LotId) where

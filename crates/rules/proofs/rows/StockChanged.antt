@@ -1,19 +1,5 @@
 -- Stock rows where the units of one lot in one bin have changed.
-use Rattle.std.proofs.Common.{◌≡◌, ℕ, Bool, true, false, ◌&&◌, not, List, [], ◌∷◌, ◌++◌, refl, ap, sym, ◌∙◌}
-use Rattle.std.specs.Prelude.{◌==◌, ◌||◌, if◌then◌else◌, ℤ, Option, Some, None, filter}
-use Rattle.std.specs.List.{list_any, cons_option}
-use Rattle.values.specs.Values.{same_text}
-use Rattle.values.specs.declared.lot.LotId.{LotId}
-use Rattle.commands.specs.declared.rows.StockRow.{StockRow}
-use Rattle.machine.specs.Acts.{Act}
-use Rattle.machine.specs.Postings.{is_lot}
-use Rattle.machine.specs.Planning.{in_bin}
-use Rattle.machine.specs.Tables.{if_any, stock_row}
-use Rattle.machine.specs.KeyedRows.{AreRows, LotBin, same_cell}
-use Rattle.rules.specs.Slices.{changed}
-use Rattle.row_rules.specs.SeenLots.{stock_found, stock_put, stock_gone, stock_rows_with}
-use Rattle.machine.proofs.Tests.{or_false, or_later}
-use Rattle.machine.proofs.Apart.{none_in_filter}
+use Rattle.rules.proofs.Words.{◌≡◌, ℕ, Bool, true, false, ◌&&◌, not, List, [], ◌∷◌, ◌++◌, refl, ap, sym, ◌∙◌, ◌==◌, ◌||◌, if◌then◌else◌, ℤ, Option, Some, None, filter, list_any, cons_option, same_text, LotId, StockRow, Act, is_lot, in_bin, if_any, stock_row, AreRows, LotBin, same_cell, changed, stock_found, stock_put, stock_gone, stock_rows_with, or_false, or_later, none_in_filter}
 use Rattle.rules.proofs.rows.SameKeys.{same_cell_is, same_cell_refl, same_cell_turned}
 use Rattle.rules.proofs.rows.AfterRows.{rows_after, put_one}
 use Rattle.rules.proofs.rows.WithoutRows.{rows_without}

@@ -1,47 +1,7 @@
 -- The lot rows, stock rows, bins and recalls of an item tell its supplies. Of lots without stock rows no lot row is needed.
-use Rattle.std.proofs.Common.{◌≡◌, ℕ, ◌+◌, ◌≤◌, Bool, true, false, ◌&&◌, not, List, [], ◌∷◌, refl, ap, sym, subst, ◌∙◌, arith}
-use Rattle.std.specs.Prelude.{◌==◌, ◌||◌, nat_lt, if◌then◌else◌, ℤ, int_lt, Option, Some, None, find, filter, map, option_map, is_some}
-use Rattle.std.specs.List.{list_any}
-use Rattle.std.proofs.lemmas.Bool.{eqb-true}
-use Rattle.std.proofs.lemmas.Int.{ints}
-use borrow.Author.Tests.{ltb-false, le-ltb}
-use Rattle.values.specs.Values.{same_text}
-use Rattle.values.specs.declared.lot.LotId.{LotId}
-use Rattle.commands.specs.Lists.{total}
-use Rattle.commands.specs.declared.command.NewBin.{NewBin}
-use Rattle.commands.specs.declared.rows.BinRow.{BinRow}
-use Rattle.commands.specs.declared.rows.LotRow.{LotRow}
-use Rattle.commands.specs.declared.rows.RecallRow.{RecallRow}
-use Rattle.commands.specs.declared.rows.StockRow.{StockRow}
-use Rattle.commands.specs.declared.limits.TheConstants.{UNITS_MAX}
-use Rattle.plan.specs.Lists.{total as plan_total}
-use Rattle.plan.specs.Overlap.{supply_total}
-use Rattle.plan.specs.declared.Supply.{Supply}
-use Rattle.plan.proofs.Nothing.{offered}
-use Rattle.plan.proofs.Ranked.{IsOrder, AllAfter, IsRising, same_non_zero, non_zero}
-use Rattle.machine.specs.Acts.{Act}
-use Rattle.machine.specs.Postings.{Posting, Place, Supplier, InBin, Stage, Shipped, WriteOff, is_lot, of_item, in_house}
-use Rattle.machine.specs.Standing.{KnownLot, lots, lots_of, lot_known, bin_named, is_store_bin, is_store_row, is_held, recalling, is_expired, least_expiry, is_shippable}
-use Rattle.machine.specs.Ledger.{postings}
-use Rattle.machine.specs.Planning.{item_postings, in_store, store_units, goes_before, shippable_lots, supplies}
-use Rattle.machine.specs.Once.{IsHistory}
-use Rattle.machine.specs.Tables.{lot_row, recall_row, stock_row, bin_row}
-use Rattle.machine.specs.KeyedRows.{AreRows, AreOwn, no_two, same_cell}
-use Rattle.row_rules.specs.Seen.{capped, has_recall}
-use Rattle.row_rules.specs.Status.{may_ship}
-use Rattle.row_rules.specs.Plans.{is_store_found, store_seen, is_usable, goes_first, usable_lots, supply_seen, supplies_seen}
-use Rattle.machine.proofs.Numbers.{unequal_above, later_than}
-use Rattle.machine.proofs.Tests.{and_both, or_none, not_true, same_text_refl, same_text_is, is_lot_is, is_lot_refl, is_lot_turned, or_later}
-use Rattle.machine.proofs.Apart.{AllFound, any_found}
-use Rattle.machine.proofs.histories.Falling.{AllBelow, AreFalling}
-use Rattle.machine.proofs.histories.Cells.{Cells, holds, holds_split}
-use Rattle.machine.proofs.histories.ItemBalances.{balance-of_item}
-use Rattle.machine.proofs.histories.LegalHistories.{legal_history}
-use Rattle.machine.proofs.histories.Lots.{same_known, lots_apart, lots_found, lots_numbered, receipt_names_lot}
-use Rattle.machine.proofs.histories.UnitsLimit.{units_within_limit}
-use Rattle.machine.proofs.histories.PlaceRows.{stock_holds, bin_cells}
+use Rattle.rules.proofs.Words.{◌≡◌, ℕ, ◌+◌, ◌≤◌, Bool, true, false, ◌&&◌, not, List, [], ◌∷◌, refl, ap, sym, subst, ◌∙◌, arith, ◌==◌, ◌||◌, nat_lt, if◌then◌else◌, ℤ, int_lt, Option, Some, None, find, filter, map, option_map, is_some, list_any, eqb-true, ints, ltb-false, same_text, LotId, total, NewBin, BinRow, LotRow, RecallRow, StockRow, UNITS_MAX, plan_total, supply_total, Supply, offered, IsOrder, AllAfter, IsRising, same_non_zero, non_zero, Act, Posting, Place, Supplier, InBin, Stage, Shipped, WriteOff, is_lot, of_item, in_house, KnownLot, lots, lots_of, lot_known, bin_named, is_store_bin, is_store_row, is_held, recalling, is_expired, least_expiry, is_shippable, postings, item_postings, in_store, store_units, goes_before, shippable_lots, supplies, IsHistory, lot_row, recall_row, stock_row, bin_row, AreRows, AreOwn, no_two, same_cell, capped, has_recall, may_ship, is_store_found, store_seen, is_usable, goes_first, usable_lots, supply_seen, IsEarlier, never_itself, goes_on, none_of, both_either, ranks_order, total_kept, unequal_above, and_both, or_none, not_true, same_text_refl, same_text_is, is_lot_is, is_lot_refl, is_lot_turned, or_later, AllFound, any_found, AllBelow, AreFalling, Cells, holds, holds_split, balance-of_item, legal_history, same_known, lots_apart, lots_found, lots_numbered, receipt_names_lot, units_within_limit, stock_holds, bin_cells, Rows, supplies_in}
 use Rattle.rules.proofs.rows.Telling.{rows_tell, some_of_mapped, totals_swapped, none_picked}
-use Rattle.rules.proofs.rows.Ordering.{AllBehind, AreRising, AllOrdered, AreOrdered, rising_inserted, rising_ordered, ordered_kept, total_inserted, total_ordered, total_filter, total_map}
+use Rattle.rules.proofs.rows.Ordering.{AllBehind, AreRising, AllOrdered, AreOrdered, rising_inserted, rising_ordered, ordered_kept, total_inserted, total_ordered, total_map}
 use Rattle.rules.proofs.rows.SliceTells.{some_mapped}
 use Rattle.rules.proofs.rows.DemandsTold.{same_total, either_way}
 
@@ -50,11 +10,11 @@ abbrev pub in_stock : List ℕ → List StockRow → LotId → Bool
 in_stock g rows l = of_item g l && list_any (λ (r : StockRow). is_lot l r.lot) rows
 
 -- the rows of the item
-pub record TellsSupplies (first : ℤ) (acts : List Act) (g : List ℕ) (lot_rows : List LotRow) (recall_rows : List RecallRow) (stock_rows : List StockRow) (bin_rows : List BinRow) : Type 0 where
-  pub lots : AreRows is_lot (λ (r : LotRow). r.lot) (in_stock g stock_rows) (λ l. true) (lot_row acts) lot_rows
-  pub recalls : (l : LotId) → of_item g l ≡ true → find (λ (r : RecallRow). is_lot l r.lot) recall_rows ≡ recall_row acts l
-  pub stock : AreRows same_cell (λ (r : StockRow). (r.lot, r.bin)) (λ k. of_item g k.0) (λ k. true) (λ k. stock_row first acts k.0 k.1) stock_rows
-  pub bins : (b : List ℕ) → list_any (λ (r : StockRow). same_text b r.bin) stock_rows ≡ true → find (λ (r : BinRow). same_text b r.name) bin_rows ≡ bin_row acts b
+pub record TellsSupplies (first : ℤ) (acts : List Act) (g : List ℕ) (read : Rows) : Type 0 where
+  pub lots : AreRows is_lot (λ (r : LotRow). r.lot) (in_stock g read.stock) (λ l. true) (lot_row acts) read.lots
+  pub recalls : (l : LotId) → of_item g l ≡ true → find (λ (r : RecallRow). is_lot l r.lot) read.recalls ≡ recall_row acts l
+  pub stock : AreRows same_cell (λ (r : StockRow). (r.lot, r.bin)) (λ k. of_item g k.0) (λ k. true) (λ k. stock_row first acts k.0 k.1) read.stock
+  pub bins : (b : List ℕ) → list_any (λ (r : StockRow). same_text b r.bin) read.stock ≡ true → find (λ (r : BinRow). same_text b r.name) read.bins ≡ bin_row acts b
 
 either_first : (a b c : Bool) → a && b && c ≡ b && a && c
 either_first true true c = refl
@@ -78,59 +38,17 @@ ranks_before a b = int_lt a.expiry b.expiry || (not (int_lt b.expiry a.expiry) &
 abbrev ranks_same : Rank → Rank → Bool
 ranks_same a b = not (ranks_before a b) && not (ranks_before b a)
 
-lt_further : (a b c : ℤ) → int_lt a b ≡ true → int_lt b c ≡ true → int_lt a c ≡ true
-lt_further a b c e f = grind (arith, ints)
-
-lt_up_to : (a b c : ℤ) → int_lt a b ≡ true → int_lt c b ≡ false → int_lt a c ≡ true
-lt_up_to a b c e f = grind (arith, ints)
-
-up_to_lt : (a b c : ℤ) → int_lt b a ≡ false → int_lt b c ≡ true → int_lt a c ≡ true
-up_to_lt a b c e f = grind (arith, ints)
-
-up_to_further : (a b c : ℤ) → int_lt b a ≡ false → int_lt c b ≡ false → int_lt c a ≡ false
-up_to_further a b c e f = grind (arith, ints)
-
 neither_lt : (a b : ℤ) → int_lt a b ≡ false → int_lt b a ≡ false → a ≡ b
 neither_lt a b e f = grind (arith, ints)
-
-not_lt_itself : (a : ℤ) → int_lt a a ≡ false
-not_lt_itself a = grind (arith, ints)
-
-not_later_itself : (a : ℕ) → nat_lt a a ≡ false
-not_later_itself a = le-ltb a a (omega arith)
 
 either_numbers : (a b : ℕ) → nat_lt a b ≡ false → nat_lt b a ≡ false → a ≡ b
 either_numbers a b e f = let h = ltb-false a b e in let k = ltb-false b a f in omega arith
 
-second_of : (p q x : Bool) → p || (not q && x) ≡ true → p ≡ false → (q ≡ false) × (x ≡ true)
-second_of true q x e f = cc
-second_of false true x e f = let g : false ≡ true = e in cc
-second_of false false x e f = (refl, e)
-
-by_second : (p q x : Bool) → q ≡ false → x ≡ true → p || (not q && x) ≡ true
-by_second true q x e f = refl
-by_second false q x e f = (λ i. not (e i) && f i)
-
-by_first : (p q x : Bool) → p ≡ true → p || (not q && x) ≡ true
-by_first p q x e = ap (λ t. t || (not q && x)) e
-
-neither_of : (p q x : Bool) → p || (not q && x) ≡ false → (p ≡ false) × (q ≡ false → x ≡ false)
-neither_of true q x e = let f : true ≡ false = e in cc
-neither_of false true x e = (refl, λ h. cc)
-neither_of false false x e = (refl, λ h. e)
+ranks : IsEarlier ranks_before
+ranks = ranks_order (λ (a : Rank). a.expiry) (λ (a : Rank). a.came)
 
 rank_further : (a b c : Rank) → ranks_before a b ≡ true → ranks_before b c ≡ true → ranks_before a c ≡ true
-rank_further a b c h k =
-    elim (int_lt a.expiry b.expiry) as (λ p. int_lt a.expiry b.expiry ≡ p → ranks_before a c ≡ true) [
-      | true ↦ λ e. by_first (int_lt a.expiry c.expiry) (int_lt c.expiry a.expiry) (nat_lt a.came c.came) (elim (int_lt b.expiry c.expiry) as (λ q. int_lt b.expiry c.expiry ≡ q → int_lt a.expiry c.expiry ≡ true) [
-        | true ↦ λ f. lt_further a.expiry b.expiry c.expiry e f
-        | false ↦ λ f. lt_up_to a.expiry b.expiry c.expiry e (second_of _ _ _ k f).0
-      ] refl)
-      | false ↦ λ e. elim (int_lt b.expiry c.expiry) as (λ q. int_lt b.expiry c.expiry ≡ q → ranks_before a c ≡ true) [
-        | true ↦ λ f. by_first (int_lt a.expiry c.expiry) (int_lt c.expiry a.expiry) (nat_lt a.came c.came) (up_to_lt a.expiry b.expiry c.expiry (second_of _ _ _ h e).0 f)
-        | false ↦ λ f. by_second _ _ _ (up_to_further a.expiry b.expiry c.expiry (second_of _ _ _ h e).0 (second_of _ _ _ k f).0) (later_than a.came b.came c.came (second_of _ _ _ h e).1 (second_of _ _ _ k f).1)
-      ] refl
-    ] refl
+rank_further = goes_on ranks_before ranks
 
 rank_order : IsOrder ranks_before ranks_same
 rank_order = record {
@@ -138,13 +56,11 @@ rank_order = record {
   apart = λ a b h. ap (λ t. not t && not (ranks_before b a)) h;
   apart_back = λ a b h. turned (ranks_before b a) (ranks_before a b) h;
   further = rank_further;
-  one = λ a b h k. one a b (neither_of _ _ _ h) (neither_of _ _ _ k);
+  one = λ a b h k. one a b (none_of _ _ _ h) (none_of _ _ _ k);
 }
   where
     itself : (a : Rank) → ranks_same a a ≡ true
-    itself a =
-        let none : ranks_before a a ≡ false = (λ i. not_lt_itself a.expiry i || (not (not_lt_itself a.expiry i) && not_later_itself a.came i)) in
-        (λ i. not (none i) && not (none i))
+    itself a = let none = never_itself ranks_before ranks a in (λ i. not (none i) && not (none i))
 
     turned : (x y : Bool) → y ≡ true → not x && not y ≡ false
     turned true y e = refl
@@ -158,14 +74,7 @@ rank_order = record {
         λ i. record { expiry = e i; came = n i }
 
 either_rank : (a b : Rank) → (a.came == b.came) ≡ false → (ranks_before a b ≡ false → ranks_before b a ≡ true) × (ranks_before b a ≡ false → ranks_before a b ≡ true)
-either_rank a b e =
-    let two = either_way a.came b.came e in
-    (way (int_lt a.expiry b.expiry) (int_lt b.expiry a.expiry) (nat_lt a.came b.came) (nat_lt b.came a.came) two.0, way (int_lt b.expiry a.expiry) (int_lt a.expiry b.expiry) (nat_lt b.came a.came) (nat_lt a.came b.came) two.1)
-  where
-    way : (p q x y : Bool) → (x ≡ false → y ≡ true) → p || (not q && x) ≡ false → q || (not p && y) ≡ true
-    way true q x y f h = let g : true ≡ false = h in cc
-    way false true x y f h = refl
-    way false false x y f h = f h
+either_rank a b e = both_either (λ (x y : Rank). int_lt x.expiry y.expiry) (λ (x y : Rank). nat_lt x.came y.came) a b (λ _ _. either_way a.came b.came e)
 
 -- Lists of ranked lots
 
@@ -211,8 +120,7 @@ split_if : (a b : Bool) (q : ℕ) → (if a then (if b then q else 0) else 0) �
 split_if true b q = refl
 split_if false b q = refl
 
-module _ (first : ℤ) (acts : List Act) (history : IsHistory first acts) (g : List ℕ) (lot_rows : List LotRow) (recall_rows : List RecallRow) (stock_rows : List StockRow) (bin_rows : List BinRow)
-    (tells : TellsSupplies first acts g lot_rows recall_rows stock_rows bin_rows) where
+module _ (first : ℤ) (acts : List Act) (history : IsHistory first acts) (g : List ℕ) (read : Rows) (tells : TellsSupplies first acts g read) where
   abbrev ips : List Posting
   ips = item_postings first acts g
 
@@ -244,7 +152,7 @@ module _ (first : ℤ) (acts : List Act) (history : IsHistory first acts) (g : L
   in_the_house l e (Stage o) m f = let h : false ≡ true = f in cc
   in_the_house l e (Shipped n o) m f = f
 
-  store_of_row : (b : List ℕ) → list_any (λ (r : StockRow). same_text b r.bin) stock_rows ≡ true → is_store_found (find (λ (r : BinRow). same_text b r.name) bin_rows) ≡ is_store_bin acts b
+  store_of_row : (b : List ℕ) → list_any (λ (r : StockRow). same_text b r.bin) read.stock ≡ true → is_store_found (find (λ (r : BinRow). same_text b r.name) read.bins) ≡ is_store_bin acts b
   store_of_row b e = ap is_store_found (tells.bins b e) ∙ kind_of (bin_named acts b)
     where
       kind_of : (x : Option NewBin) → is_store_found (option_map (λ (x : NewBin). record { name = x.bin; kind = x.kind }) x) ≡ is_store_row x
@@ -257,20 +165,20 @@ module _ (first : ℤ) (acts : List Act) (history : IsHistory first acts) (g : L
   and_turned false true = refl
   and_turned false false = refl
 
-  seen_store : (l : LotId) (rows : List StockRow) → ((b : List ℕ) → list_any (λ (r : StockRow). same_text b r.bin) rows ≡ true → list_any (λ (r : StockRow). same_text b r.bin) stock_rows ≡ true)
-      → store_seen bin_rows rows l ≡ total (λ (r : StockRow). if pick l r.lot r.bin then r.qty else 0) rows
+  seen_store : (l : LotId) (rows : List StockRow) → ((b : List ℕ) → list_any (λ (r : StockRow). same_text b r.bin) rows ≡ true → list_any (λ (r : StockRow). same_text b r.bin) read.stock ≡ true)
+      → store_seen read.bins rows l ≡ total (λ (r : StockRow). if pick l r.lot r.bin then r.qty else 0) rows
   seen_store l [] h = refl
   seen_store l (r ∷ rs) h =
       let own : list_any (λ (q : StockRow). same_text r.bin q.bin) (r ∷ rs) ≡ true = ap (λ t. t || list_any (λ (q : StockRow). same_text r.bin q.bin) rs) (same_text_refl r.bin) in
       (λ i. (if is_lot l r.lot && store_of_row r.bin (h r.bin own) i then r.qty else 0) + seen_store l rs (λ b e. h b (or_later (same_text b r.bin) _ e)) i)
       ∙ ap (λ t. (if t then r.qty else 0) + total (λ (r : StockRow). if pick l r.lot r.bin then r.qty else 0) rs) (and_turned (is_lot l r.lot) (is_store_bin acts r.bin))
 
-  store_told : (l : LotId) → of_item g l ≡ true → store_seen bin_rows stock_rows l ≡ store_units acts ips l
+  store_told : (l : LotId) → of_item g l ≡ true → store_seen read.bins read.stock l ≡ store_units acts ips l
   store_told l e =
       let legal = legal_history first acts history in
       let cells : Cells = λ p m. in_store acts p && is_lot l m in
-      seen_store l stock_rows (λ b h. h)
-      ∙ sym (stock_holds first acts legal (pick l) (λ k. of_item g k.0) (λ k. true) stock_rows tells.stock (λ m b f. of_lot l m e (and_both (is_store_bin acts b) (is_lot l m) f).1))
+      seen_store l read.stock (λ b h. h)
+      ∙ sym (stock_holds first acts legal (pick l) (λ k. of_item g k.0) (λ k. true) read.stock tells.stock (λ m b f. of_lot l m e (and_both (is_store_bin acts b) (is_lot l m) f).1))
       ∙ sym (λ i. holds (λ p m. cells_same l p m i) ps)
       ∙ sym (balance-of_item (in_store acts) g (is_lot l) (other l e) ps)
     where
@@ -279,14 +187,14 @@ module _ (first : ℤ) (acts : List Act) (history : IsHistory first acts) (g : L
 
   -- a lot without stock rows has no units in STORE bins
 
-  none_seen : (l : LotId) (rows : List StockRow) → list_any (λ (r : StockRow). is_lot l r.lot) rows ≡ false → store_seen bin_rows rows l ≡ 0
+  none_seen : (l : LotId) (rows : List StockRow) → list_any (λ (r : StockRow). is_lot l r.lot) rows ≡ false → store_seen read.bins rows l ≡ 0
   none_seen l [] e = refl
   none_seen l (r ∷ rs) e =
       let two = or_none (is_lot l r.lot) (list_any (λ (r : StockRow). is_lot l r.lot) rs) e in
-      (λ i. (if two.0 i && is_store_found (find (λ (b : BinRow). same_text r.bin b.name) bin_rows) then r.qty else 0) + none_seen l rs two.1 i)
+      (λ i. (if two.0 i && is_store_found (find (λ (b : BinRow). same_text r.bin b.name) read.bins) then r.qty else 0) + none_seen l rs two.1 i)
 
-  pub none_in_store : (l : LotId) → of_item g l ≡ true → in_stock g stock_rows l ≡ false → store_units acts ips l ≡ 0
-  none_in_store l own e = sym (store_told l own) ∙ none_seen l stock_rows (ap (λ b. b && list_any (λ (r : StockRow). is_lot l r.lot) stock_rows) (sym own) ∙ e)
+  pub none_in_store : (l : LotId) → of_item g l ≡ true → in_stock g read.stock l ≡ false → store_units acts ips l ≡ 0
+  none_in_store l own e = sym (store_told l own) ∙ none_seen l read.stock (ap (λ b. b && list_any (λ (r : StockRow). is_lot l r.lot) read.stock) (sym own) ∙ e)
 
   store_within : (l : LotId) → of_item g l ≡ true → store_units acts ips l ≤ UNITS_MAX
   store_within l e =
@@ -299,7 +207,7 @@ module _ (first : ℤ) (acts : List Act) (history : IsHistory first acts) (g : L
       other : (l : LotId) → of_item g l ≡ true → (m : LotId) → of_item g m ≡ false → is_lot l m ≡ false
       other l e m f = elim (is_lot l m) as (λ b. is_lot l m ≡ b → b ≡ false) [ true ↦ λ t. let h = of_lot l m e t in cc | false ↦ λ t. refl ] refl
 
-  avail_told : (l : LotId) → of_item g l ≡ true → capped (store_seen bin_rows stock_rows l) ≡ store_units acts ips l
+  avail_told : (l : LotId) → of_item g l ≡ true → capped (store_seen read.bins read.stock l) ≡ store_units acts ips l
   avail_told l e = omega (arith, store_told l e, store_within l e)
 
   -- Which lots
@@ -307,12 +215,12 @@ module _ (first : ℤ) (acts : List Act) (history : IsHistory first acts) (g : L
   abbrev from : ℤ
   from = least_expiry first acts g
 
-  usable_told : (k : KnownLot) → is_usable g from recall_rows (show k) ≡ of_item g k.lot && is_shippable first acts k
+  usable_told : (k : KnownLot) → is_usable g from read.recalls (show k) ≡ of_item g k.lot && is_shippable first acts k
   usable_told k =
-      elim (of_item g k.lot) as (λ b. of_item g k.lot ≡ b → b && may_ship from recall_rows (show k) ≡ b && is_shippable first acts k) [
+      elim (of_item g k.lot) as (λ b. of_item g k.lot ≡ b → b && may_ship from read.recalls (show k) ≡ b && is_shippable first acts k) [
         | true ↦ λ e.
-            let recalled = sym (any_found (λ (r : RecallRow). is_lot k.lot r.lot) recall_rows) ∙ ap is_some (tells.recalls k.lot e) ∙ some_mapped _ (recalling acts k.lot) in
-            either_first (not (has_recall recall_rows k.lot)) (not (is_held acts k.lot)) (not (is_expired from k.expiry))
+            let recalled = sym (any_found (λ (r : RecallRow). is_lot k.lot r.lot) read.recalls) ∙ ap is_some (tells.recalls k.lot e) ∙ some_mapped _ (recalling acts k.lot) in
+            either_first (not (has_recall read.recalls k.lot)) (not (is_held acts k.lot)) (not (is_expired from k.expiry))
             ∙ (λ i. not (is_held acts k.lot) && not (recalled i) && not (is_expired (least_expiry first acts (same_text_is g k.lot.gtin e i)) k.expiry))
         | false ↦ λ e. refl
       ] refl
@@ -330,12 +238,12 @@ module _ (first : ℤ) (acts : List Act) (history : IsHistory first acts) (g : L
     weight l = under_known (lot_known acts l)
 
     abbrev seen_under : LotRow → ℕ
-    seen_under k = if is_usable g from recall_rows k then (if ranks_same r (record { expiry = k.expiry; came = k.came }) then capped (store_seen bin_rows stock_rows k.lot) else 0) else 0
+    seen_under k = if is_usable g from read.recalls k then (if ranks_same r (record { expiry = k.expiry; came = k.came }) then capped (store_seen read.bins read.stock k.lot) else 0) else 0
 
     shown_under : (k : KnownLot) → seen_under (show k) ≡ under k
     shown_under k =
-        ap (λ b. if b then (if ranks_same r (record { expiry = k.expiry; came = k.came }) then capped (store_seen bin_rows stock_rows k.lot) else 0) else 0) (usable_told k)
-        ∙ elim (of_item g k.lot) as (λ b. of_item g k.lot ≡ b → (if b && is_shippable first acts k then (if ranks_same r (record { expiry = k.expiry; came = k.came }) then capped (store_seen bin_rows stock_rows k.lot) else 0) else 0)
+        ap (λ b. if b then (if ranks_same r (record { expiry = k.expiry; came = k.came }) then capped (store_seen read.bins read.stock k.lot) else 0) else 0) (usable_told k)
+        ∙ elim (of_item g k.lot) as (λ b. of_item g k.lot ≡ b → (if b && is_shippable first acts k then (if ranks_same r (record { expiry = k.expiry; came = k.came }) then capped (store_seen read.bins read.stock k.lot) else 0) else 0)
         ≡ (if b && is_shippable first acts k then (if ranks_same r (record { expiry = k.expiry; came = k.came }) then store_units acts ips k.lot else 0) else 0)) [
           | true ↦ λ e. ap (λ n. if is_shippable first acts k then (if ranks_same r (record { expiry = k.expiry; came = k.came }) then n else 0) else 0) (avail_told k.lot e)
           | false ↦ λ e. refl
@@ -356,7 +264,7 @@ module _ (first : ℤ) (acts : List Act) (history : IsHistory first acts) (g : L
     each_known (k ∷ ks) h = λ i. under_known (h.0 i) + each_known ks h.1 i
 
     -- a lot of which no row is needed has nothing
-    none_under : (k : KnownLot) → in_stock g stock_rows k.lot ≡ false → under k ≡ 0
+    none_under : (k : KnownLot) → in_stock g read.stock k.lot ≡ false → under k ≡ 0
     none_under k e =
         elim (of_item g k.lot) as (λ b. of_item g k.lot ≡ b → if_of b ≡ 0) [
           | true ↦ λ own.
@@ -374,10 +282,10 @@ module _ (first : ℤ) (acts : List Act) (history : IsHistory first acts) (g : L
         nothing false b = refl
 
     -- under each rank the rows have what the lots have
-    rows_tell_lots : total seen_under lot_rows ≡ total under (lots acts)
+    rows_tell_lots : total seen_under read.lots ≡ total under (lots acts)
     rows_tell_lots =
-        rows_under lot_rows tells.lots.own
-        ∙ rows_tell is_lot is_lot_is is_lot_turned (λ (k : KnownLot). k.lot) (λ (k : LotRow). k.lot) show (lots acts) (lots_apart acts) (lots_found acts) weight (in_stock g stock_rows) (λ l. true) lot_rows
+        rows_under read.lots tells.lots.own
+        ∙ rows_tell is_lot is_lot_is is_lot_turned (λ (k : KnownLot). k.lot) (λ (k : LotRow). k.lot) show (lots acts) (lots_apart acts) (lots_found acts) weight (in_stock g read.stock) (λ l. true) read.lots
         tells.lots.found tells.lots.own tells.lots.once
         (λ k named e. ap under_known named ∙ none_under k e)
         ∙ each_known (lots acts) (lots_found acts)
@@ -386,7 +294,7 @@ module _ (first : ℤ) (acts : List Act) (history : IsHistory first acts) (g : L
   row_rank k = record { expiry = k.expiry; came = k.came }
 
   abbrev row_avail : LotRow → ℕ
-  row_avail k = capped (store_seen bin_rows stock_rows k.lot)
+  row_avail k = capped (store_seen read.bins read.stock k.lot)
 
   abbrev lot_rank : KnownLot → Rank
   lot_rank k = record { expiry = k.expiry; came = k.came }
@@ -395,7 +303,7 @@ module _ (first : ℤ) (acts : List Act) (history : IsHistory first acts) (g : L
   lot_avail k = store_units acts ips k.lot
 
   abbrev seen_list : List Lot
-  seen_list = map (as_lot row_rank row_avail) (usable_lots g from recall_rows lot_rows)
+  seen_list = map (as_lot row_rank row_avail) (usable_lots g from read.recalls read.lots)
 
   abbrev told_list : List Lot
   told_list = map (as_lot lot_rank lot_avail) (shippable_lots first acts g)
@@ -407,11 +315,11 @@ module _ (first : ℤ) (acts : List Act) (history : IsHistory first acts) (g : L
   same_at : (r : Rank) → plan_total (λ (x : Lot). if ranks_same r x.rank then x.avail else 0) seen_list ≡ plan_total (λ (x : Lot). if ranks_same r x.rank then x.avail else 0) told_list
   same_at r =
       let f : Lot → ℕ = λ x. if ranks_same r x.rank then x.avail else 0 in
-      same_total f seen_list ∙ total_map f (as_lot row_rank row_avail) (usable_lots g from recall_rows lot_rows)
-      ∙ total_inserted goes_first (λ k. f (as_lot row_rank row_avail k)) [] (filter (is_usable g from recall_rows) lot_rows)
-      ∙ ap (λ n. 0 + n) (total_filter (λ k. f (as_lot row_rank row_avail k)) (is_usable g from recall_rows) lot_rows ∙ rows_tell_lots r ∙ sym (split_all r (lots acts))
-      ∙ sym (total_filter (λ (k : KnownLot). if is_shippable first acts k then f (as_lot lot_rank lot_avail k) else 0) (λ k. of_item g k.lot) (lots acts))
-      ∙ sym (total_filter (λ (k : KnownLot). f (as_lot lot_rank lot_avail k)) (is_shippable first acts) (lots_of acts g))
+      same_total f seen_list ∙ total_map f (as_lot row_rank row_avail) (usable_lots g from read.recalls read.lots)
+      ∙ total_inserted goes_first (λ k. f (as_lot row_rank row_avail k)) [] (filter (is_usable g from read.recalls) read.lots)
+      ∙ ap (λ n. 0 + n) (total_kept (λ k. f (as_lot row_rank row_avail k)) (is_usable g from read.recalls) read.lots ∙ rows_tell_lots r ∙ sym (split_all r (lots acts))
+      ∙ sym (total_kept (λ (k : KnownLot). if is_shippable first acts k then f (as_lot lot_rank lot_avail k) else 0) (λ k. of_item g k.lot) (lots acts))
+      ∙ sym (total_kept (λ (k : KnownLot). f (as_lot lot_rank lot_avail k)) (is_shippable first acts) (lots_of acts g))
       ∙ sym (total_ordered goes_before (λ (k : KnownLot). f (as_lot lot_rank lot_avail k)) (filter (is_shippable first acts) (lots_of acts g)))
       ∙ sym (total_map f (as_lot lot_rank lot_avail) (shippable_lots first acts g)) ∙ sym (same_total f told_list))
       ∙ omega arith
@@ -455,9 +363,9 @@ module _ (first : ℤ) (acts : List Act) (history : IsHistory first acts) (g : L
 
   seen_rises : RisingLots seen_list
   seen_rises =
-      lots_rise row_rank row_avail (usable_lots g from recall_rows lot_rows)
-      (rising_inserted goes_first (λ x y z e f. rank_further (row_rank x) (row_rank y) (row_rank z) e f) (filter (is_usable g from recall_rows) lot_rows)
-      (ordered_kept goes_first (is_usable g from recall_rows) lot_rows (rows_ordered lot_rows tells.lots.own tells.lots.once)))
+      lots_rise row_rank row_avail (usable_lots g from read.recalls read.lots)
+      (rising_inserted goes_first (λ x y z e f. rank_further (row_rank x) (row_rank y) (row_rank z) e f) (filter (is_usable g from read.recalls) read.lots)
+      (ordered_kept goes_first (is_usable g from read.recalls) read.lots (rows_ordered read.lots tells.lots.own tells.lots.once)))
 
   told_rises : RisingLots told_list
   told_rises =
@@ -466,9 +374,9 @@ module _ (first : ℤ) (acts : List Act) (history : IsHistory first acts) (g : L
       (ordered_kept goes_before (is_shippable first acts) (lots_of acts g) (ordered_kept goes_before (λ k. of_item g k.lot) (lots acts) (lots_ordered (lots acts) (lots_numbered acts).falling))))
 
   -- the rows tell the supplies, but for lots of which nothing is there
-  pub rows_tell_supplies : offered (supplies_seen g from recall_rows bin_rows stock_rows lot_rows) ≡ offered (supplies first acts g)
+  pub rows_tell_supplies : offered (supplies_in g from read) ≡ offered (supplies first acts g)
   rows_tell_supplies =
-      ap offered (sym (map_twice out (as_lot row_rank row_avail) (usable_lots g from recall_rows lot_rows))) ∙ offered_out seen_list
+      ap offered (sym (map_twice out (as_lot row_rank row_avail) (usable_lots g from read.recalls read.lots))) ∙ offered_out seen_list
       ∙ ap (map out) (same_non_zero ranks_before ranks_same (λ (x : Lot). x.rank) (λ (x : Lot). x.avail) rank_order (λ x y e f. (λ i. record { rank = e i; avail = f i })) seen_list told_list seen_rises told_rises same_at)
       ∙ sym (offered_out told_list) ∙ ap offered (map_twice out (as_lot lot_rank lot_avail) (shippable_lots first acts g))
 
@@ -493,7 +401,7 @@ module _ (first : ℤ) (acts : List Act) (history : IsHistory first acts) (g : L
   abbrev own_qty : StockRow → ℕ
   own_qty r = if of_item g r.lot then r.qty else 0
 
-  store_by_rows : (k : LotRow) → of_item g k.lot ≡ true → (rows : List StockRow) → store_seen bin_rows rows k.lot ≤ total (λ (r : StockRow). if is_lot k.lot r.lot then own_qty r else 0) rows
+  store_by_rows : (k : LotRow) → of_item g k.lot ≡ true → (rows : List StockRow) → store_seen read.bins rows k.lot ≤ total (λ (r : StockRow). if is_lot k.lot r.lot then own_qty r else 0) rows
   store_by_rows k e [] = omega arith
   store_by_rows k e (r ∷ rs) = omega (arith, one, store_by_rows k e rs)
     where
@@ -501,21 +409,21 @@ module _ (first : ℤ) (acts : List Act) (history : IsHistory first acts) (g : L
       at_most_all true q = omega arith
       at_most_all false q = omega arith
 
-      one : (if is_lot k.lot r.lot && is_store_found (find (λ (b : BinRow). same_text r.bin b.name) bin_rows) then r.qty else 0) ≤ (if is_lot k.lot r.lot then own_qty r else 0)
-      one = elim (is_lot k.lot r.lot) as (λ b. is_lot k.lot r.lot ≡ b → (if b && is_store_found (find (λ (b : BinRow). same_text r.bin b.name) bin_rows) then r.qty else 0) ≤ (if b then own_qty r else 0)) [
+      one : (if is_lot k.lot r.lot && is_store_found (find (λ (b : BinRow). same_text r.bin b.name) read.bins) then r.qty else 0) ≤ (if is_lot k.lot r.lot then own_qty r else 0)
+      one = elim (is_lot k.lot r.lot) as (λ b. is_lot k.lot r.lot ≡ b → (if b && is_store_found (find (λ (b : BinRow). same_text r.bin b.name) read.bins) then r.qty else 0) ≤ (if b then own_qty r else 0)) [
         | true ↦ λ t.
             let own : own_qty r ≡ r.qty = ap (λ b. if b then r.qty else 0) (of_lot k.lot r.lot e t) in
-            omega (arith, own, at_most_all (is_store_found (find (λ (b : BinRow). same_text r.bin b.name) bin_rows)) r.qty)
+            omega (arith, own, at_most_all (is_store_found (find (λ (b : BinRow). same_text r.bin b.name) read.bins)) r.qty)
         | false ↦ λ t. omega arith
       ] refl
 
-  avail_by_rows : (ks : List LotRow) → total (λ (k : LotRow). if is_usable g from recall_rows k then row_avail k else 0) ks ≤ total (λ (k : LotRow). total (λ (r : StockRow). if is_lot k.lot r.lot then own_qty r else 0) stock_rows) ks
+  avail_by_rows : (ks : List LotRow) → total (λ (k : LotRow). if is_usable g from read.recalls k then row_avail k else 0) ks ≤ total (λ (k : LotRow). total (λ (r : StockRow). if is_lot k.lot r.lot then own_qty r else 0) read.stock) ks
   avail_by_rows [] = omega arith
   avail_by_rows (k ∷ ks) = omega (arith, one, avail_by_rows ks)
     where
-      one : (if is_usable g from recall_rows k then row_avail k else 0) ≤ total (λ (r : StockRow). if is_lot k.lot r.lot then own_qty r else 0) stock_rows
-      one = elim (of_item g k.lot) as (λ b. of_item g k.lot ≡ b → (if b && may_ship from recall_rows k then row_avail k else 0) ≤ total (λ (r : StockRow). if is_lot k.lot r.lot then own_qty r else 0) stock_rows) [
-        | true ↦ λ e. omega (arith, less (may_ship from recall_rows k) (row_avail k), store_by_rows k e stock_rows)
+      one : (if is_usable g from read.recalls k then row_avail k else 0) ≤ total (λ (r : StockRow). if is_lot k.lot r.lot then own_qty r else 0) read.stock
+      one = elim (of_item g k.lot) as (λ b. of_item g k.lot ≡ b → (if b && may_ship from read.recalls k then row_avail k else 0) ≤ total (λ (r : StockRow). if is_lot k.lot r.lot then own_qty r else 0) read.stock) [
+        | true ↦ λ e. omega (arith, less (may_ship from read.recalls k) (row_avail k), store_by_rows k e read.stock)
         | false ↦ λ e. omega arith
       ] refl
         where
@@ -523,14 +431,14 @@ module _ (first : ℤ) (acts : List Act) (history : IsHistory first acts) (g : L
           less true q = omega arith
           less false q = omega arith
 
-  each_row_once : (rows : List StockRow) → total (λ (r : StockRow). total (λ (k : LotRow). if is_lot k.lot r.lot then own_qty r else 0) lot_rows) rows ≤ total own_qty rows
+  each_row_once : (rows : List StockRow) → total (λ (r : StockRow). total (λ (k : LotRow). if is_lot k.lot r.lot then own_qty r else 0) read.lots) rows ≤ total own_qty rows
   each_row_once [] = omega arith
-  each_row_once (r ∷ rs) = omega (arith, at_most_one (own_qty r) r.lot lot_rows tells.lots.once, each_row_once rs)
+  each_row_once (r ∷ rs) = omega (arith, at_most_one (own_qty r) r.lot read.lots tells.lots.once, each_row_once rs)
 
-  own_within : total own_qty stock_rows ≤ UNITS_MAX
+  own_within : total own_qty read.stock ≤ UNITS_MAX
   own_within =
       let legal = legal_history first acts history in
-      let whole = stock_holds first acts legal (λ m b. of_item g m) (λ k. of_item g k.0) (λ k. true) stock_rows tells.stock (λ m b e. e) in
+      let whole = stock_holds first acts legal (λ m b. of_item g m) (λ k. of_item g k.0) (λ k. true) read.stock tells.stock (λ m b e. e) in
       let house = holds_split ps legal (bin_cells (λ m b. of_item g m)) (λ p m. in_house p && of_item g m) (record { supplier = λ m. refl; write_off = λ m. refl }) (record { supplier = λ m. refl; write_off = λ m. refl }) in_bins in
       omega (arith, whole, house, units_within_limit first acts history g)
     where
@@ -542,16 +450,16 @@ module _ (first : ℤ) (acts : List Act) (history : IsHistory first acts) (g : L
       in_bins (Shipped n o) m e = e
 
   -- the supplies seen are within the limit of a list's sum
-  pub supplies_within_limit : supply_total (supplies_seen g from recall_rows bin_rows stock_rows lot_rows) ≤ UNITS_MAX
+  pub supplies_within_limit : supply_total (supplies_in g from read) ≤ UNITS_MAX
   supplies_within_limit =
       omega (
         arith,
-        same_total (λ (x : Supply). x.avail) (supplies_seen g from recall_rows bin_rows stock_rows lot_rows),
-        total_map (λ (x : Supply). x.avail) (supply_seen bin_rows stock_rows) (usable_lots g from recall_rows lot_rows),
-        total_inserted goes_first row_avail [] (filter (is_usable g from recall_rows) lot_rows),
-        total_filter row_avail (is_usable g from recall_rows) lot_rows,
-        avail_by_rows lot_rows,
-        totals_swapped (λ (k : LotRow) (r : StockRow). if is_lot k.lot r.lot then own_qty r else 0) lot_rows stock_rows,
-        each_row_once stock_rows,
+        same_total (λ (x : Supply). x.avail) (supplies_in g from read),
+        total_map (λ (x : Supply). x.avail) (supply_seen read.bins read.stock) (usable_lots g from read.recalls read.lots),
+        total_inserted goes_first row_avail [] (filter (is_usable g from read.recalls) read.lots),
+        total_kept row_avail (is_usable g from read.recalls) read.lots,
+        avail_by_rows read.lots,
+        totals_swapped (λ (k : LotRow) (r : StockRow). if is_lot k.lot r.lot then own_qty r else 0) read.lots read.stock,
+        each_row_once read.stock,
         own_within,
       )

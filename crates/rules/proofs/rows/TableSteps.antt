@@ -1,17 +1,5 @@
 -- Tables that agree at each key are equal; and what a change says of reserved rows.
-use Rattle.std.proofs.Common.{◌≡◌, ℕ, Bool, true, false, ◌&&◌, not, List, [], ◌∷◌, refl, ap, sym, ◌∙◌, eq-eqb}
-use Rattle.std.specs.Prelude.{◌==◌, if◌then◌else◌, Option, Some, None, option_map, find, is_some, ℤ}
-use Rattle.std.specs.List.{list_any}
-use Rattle.std.proofs.lemmas.Bool.{eqb-true}
-use Rattle.values.specs.Values.{same_text}
-use Rattle.values.specs.declared.lot.LotId.{LotId}
-use Rattle.commands.specs.declared.rows.ReservedRow.{ReservedRow}
-use Rattle.machine.specs.Acts.{Act}
-use Rattle.machine.specs.Postings.{is_lot}
-use Rattle.machine.specs.Planning.{reserved}
-use Rattle.machine.specs.Tables.{Tables, tables_of, if_any, reserved_row}
-use Rattle.rules.specs.Slices.{changed, unless_put, differs, NamesChangedReservations}
-use Rattle.row_rules.specs.declared.slice.Change.{Change}
+use Rattle.rules.proofs.Words.{◌≡◌, ℕ, Bool, true, false, ◌&&◌, not, List, [], ◌∷◌, refl, ap, sym, ◌∙◌, eq-eqb, ◌==◌, if◌then◌else◌, Option, Some, None, option_map, find, is_some, ℤ, list_any, eqb-true, same_text, LotId, ReservedRow, Act, is_lot, reserved, Tables, tables_of, if_any, reserved_row, changed, unless_put, differs, NamesChangedReservations, Change}
 
 pub same_tables : (t u : Tables) → t.meta ≡ u.meta → ((g : List ℕ) → t.item g ≡ u.item g) → ((g : List ℕ) → t.least g ≡ u.least g) → ((b : List ℕ) → t.bin b ≡ u.bin b)
     → ((l : LotId) → t.lot l ≡ u.lot l) → ((l : LotId) → t.recall l ≡ u.recall l) → ((l : LotId) (b : List ℕ) → t.stock l b ≡ u.stock l b)

@@ -1,12 +1,5 @@
 -- A sum over rows is the sum over all that the table shows, if what has no row counts nothing.
-use Rattle.std.proofs.Common.{◌≡◌, ℕ, ◌+◌, Bool, true, false, ◌&&◌, not, List, [], ◌∷◌, refl, ap, sym, ◌∙◌, arith}
-use Rattle.std.specs.Prelude.{◌||◌, if◌then◌else◌, Option, Some, None, find, option_map}
-use Rattle.std.specs.List.{list_any}
-use Rattle.commands.specs.Lists.{total}
-use Rattle.machine.specs.KeyedRows.{AreOwn, no_two}
-use Rattle.machine.proofs.Numbers.{total_zero, add_totals}
-use Rattle.machine.proofs.Tests.{and_both, not_true, some_one}
-use Rattle.machine.proofs.Apart.{AreApart, AllFound}
+use Rattle.rules.proofs.Words.{◌≡◌, ℕ, ◌+◌, Bool, true, false, ◌&&◌, not, List, [], ◌∷◌, refl, ap, sym, ◌∙◌, arith, ◌||◌, if◌then◌else◌, Option, Some, None, find, option_map, list_any, total, AreOwn, no_two, total_zero, add_totals, and_both, not_true, some_one, AreApart, AllFound}
 
 -- sums of sums may be exchanged
 pub totals_swapped : {X Y : Type 0} (f : X → Y → ℕ) (xs : List X) (ys : List Y) → total (λ x. total (f x) ys) xs ≡ total (λ y. total (λ x. f x y) xs) ys

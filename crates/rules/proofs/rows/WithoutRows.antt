@@ -1,9 +1,5 @@
 -- Rows without that under one key are the rows of the look-up that has none there.
-use Rattle.std.proofs.Common.{◌≡◌, Bool, true, false, not, List, [], ◌∷◌, refl, ap, sym, ◌∙◌}
-use Rattle.std.specs.Prelude.{if◌then◌else◌, Option, Some, None, find, filter}
-use Rattle.std.specs.List.{list_any}
-use Rattle.machine.specs.KeyedRows.{AreRows, AreOwn, no_two}
-use Rattle.machine.proofs.Tests.{and_both, or_none, not_true}
+use Rattle.rules.proofs.Words.{◌≡◌, Bool, true, false, not, List, [], ◌∷◌, refl, ap, sym, ◌∙◌, if◌then◌else◌, Option, Some, None, find, filter, list_any, AreRows, AreOwn, no_two, and_both, or_none, not_true}
 use Rattle.rules.proofs.rows.AfterRows.{rows_after}
 use Rattle.rules.proofs.rows.AddedRows.{not_found}
 

@@ -1,6 +1,4 @@
-use Rattle.std.proofs.Common.{rules, ◌≡◌, ◌≤◌, length, length-append, take, drop, ap, subst, ◌∙◌, arith}
-use Rattle.std.specs.Prelude.{min}
-use Rattle.sqlite_disk.specs.Disk.{Holds}
+use Rattle.acts_files.proofs.Words.{rules, ◌≡◌, ◌≤◌, length, length-append, take, drop, ap, subst, ◌∙◌, arith, min, Holds}
 use Rattle.acts_files.proofs.Read.{first_begins, first_taken}
 use Rattle.acts_files.proofs.beside.first_line.Goals as goal
 

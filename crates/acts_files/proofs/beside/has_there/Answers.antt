@@ -1,6 +1,4 @@
-use Rattle.std.proofs.Common.{rules, ◌≡◌, ◌≤◌, ◌+◌, true, false, length, sym, ◌∙◌, arith}
-use Rattle.std.proofs.lemmas.Bool.Decides.{Decides-eqb}
-use Rattle.std.proofs.lemmas.Slice.Eq.{slice_eq-Decides}
+use Rattle.acts_files.proofs.Words.{rules, ◌≡◌, ◌≤◌, ◌+◌, true, false, length, sym, ◌∙◌, arith, Decides-eqb, slice_eq-Decides}
 use Rattle.acts_files.proofs.Read.{other}
 use Rattle.acts_files.proofs.beside.has_there.Goals as goal
 

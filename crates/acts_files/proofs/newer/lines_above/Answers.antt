@@ -1,7 +1,4 @@
-use Rattle.std.proofs.Common.{refl}
-use Rattle.std.proofs.lemmas.Result.{IfOk-weaker}
-use Rattle.histories.specs.declared.fault.HistoryFault.TheVariants.{Output}
-use Rattle.acts_files.specs.declared.few_lines.FewLines.{FewLines}
+use Rattle.acts_files.proofs.Words.{refl, IfOk-weaker, Output, FewLines}
 use Rattle.acts_files.proofs.Few.{next_of}
 use Rattle.acts_files.proofs.newer.lines_above.Goals as goal
 

@@ -1,6 +1,4 @@
-use Rattle.std.proofs.Common.{◌≡◌, ◌∙◌, decimal, subst}
-use Rattle.std.specs.Prelude.{IsTrue}
-use Rattle.acts_files.specs.Torn.{Begins}
+use Rattle.acts_files.proofs.Words.{◌≡◌, ◌∙◌, decimal, subst, IsTrue, Begins}
 use Rattle.acts_files.proofs.Numbers.{begins_iff}
 use Rattle.acts_files.proofs.torn.begins_number.Goals as goal
 

@@ -1,10 +1,4 @@
-use Rattle.std.proofs.Common.{◌≡◌, Option, Some, None, ap, sym, subst, ◌∙◌}
-use Rattle.std.proofs.lemmas.Result.{IfOk-weaker}
-use Rattle.spellings.specs.declared.start.Start.{Start}
-use Rattle.spellings.specs.declared.start.Start.TheVariants.{Received, Opened}
-use Rattle.histories.specs.Start.{start_of, IsStartBy, IsStart}
-use Rattle.histories.proofs.Kept.{today_told}
-use Rattle.applies.specs.Begun.{line_day}
+use Rattle.applies.proofs.Words.{◌≡◌, Option, Some, None, ap, sym, subst, ◌∙◌, IfOk-weaker, Start, Received, Opened, start_of, IsStartBy, IsStart, today_told, line_day}
 use Rattle.applies.proofs.BegunDays.{begun_told, begun_opened}
 use Rattle.applies.proofs.FittingDays.{none_opened, received_first, fits_told, fits_opened}
 use Rattle.applies.proofs.begun.begun_by.Goals as goal

@@ -1,6 +1,4 @@
-use Rattle.std.proofs.Common.{refl, None}
-use Rattle.std.proofs.lemmas.Result.{IfOk-weaker}
-use Rattle.histories.specs.declared.start.CardDay.{CardDay}
+use Rattle.applies.proofs.Words.{refl, None, IfOk-weaker, CardDay}
 use Rattle.applies.proofs.BegunDays.{card_told}
 use Rattle.applies.proofs.begun.card_day.Goals as goal
 

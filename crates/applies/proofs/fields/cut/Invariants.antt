@@ -1,5 +1,4 @@
-use Rattle.std.proofs.Common.{◌≡◌, take, drop}
-use Rattle.applies.specs.Fields.{cut_at_tab}
+use Rattle.applies.proofs.Words.{◌≡◌, take, drop, cut_at_tab}
 use Rattle.applies.proofs.LineFields.{cut_from}
 use Rattle.applies.proofs.fields.cut.Given as goal
 

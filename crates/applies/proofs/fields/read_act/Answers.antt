@@ -1,5 +1,4 @@
-use Rattle.std.proofs.Common.{sym}
-use Rattle.std.proofs.lemmas.Result.{IfOk-weaker}
+use Rattle.applies.proofs.Words.{sym, IfOk-weaker}
 use Rattle.applies.proofs.LineFields.{reads_of, reads_none}
 use Rattle.applies.proofs.fields.read_act.Goals as goal
 

@@ -1,13 +1,8 @@
-use Rattle.std.proofs.Common.{Ok, refl, ap, sym, subst, ◌∙◌}
-use Rattle.sqlite.proofs.StateLemmas.{survives_weaker}
-use Rattle.histories.specs.Newer.{newer_text}
-use Rattle.act_lines.specs.Walked.{AtPlace}
-use Rattle.applies.specs.Going.{GoesOn, Leaves, OfText}
-use Rattle.applies.specs.Known.{counted}
-use Rattle.applies.specs.Lines.{AreLinesDone, AreBehindDone, LeavesLines}
+use Rattle.applies.proofs.Words.{Ok, refl, ap, sym, subst, ◌∙◌, survives_weaker, newer_text, AtPlace, GoesOn, Leaves, OfText, counted, AreLinesDone, AreBehindDone, LeavesLines}
 use Rattle.applies.proofs.Texts.{told_from, told_weaker}
 use Rattle.applies.proofs.Passed.{done_before, leaves_before, done_within, leaves_within}
 use Rattle.applies.proofs.Walked.{done_behind}
+use Rattle.applies.proofs.Wants.{lines_own, rest_own, counted_own}
 use Rattle.applies.proofs.known.go_on.Goals as goal
 
 pub returns-in-Before-clause-applied : goal.returns-in-Before-clause-applied
@@ -51,3 +46,18 @@ returns-in-Behind-clause-applied g c clean left first begun acts history holds p
     let b = subst (λ p. AtPlace g.R.Read.remaining left begun p c.args.lines acts) c.in-Behind.is passed.place in
     subst (λ n. OfText left (λ text. GoesOn g.S.Store first begun acts text (Ok (record { done = 0; known = c.args.lines.known; beyond = n })) c.args.books.now)) (sym c.acts_behind-beyond.ensures)
     (done_behind g.S.Store g.R.Read.remaining left first begun acts history c.args.books.now holds c.args.lines passed.done b)
+
+pub returns-in-Before-clause-own : goal.returns-in-Before-clause-own
+returns-in-Before-clause-own g c clean left first begun acts history holds passed =
+    let b = subst (λ p. AtPlace g.R.Read.remaining left begun p c.args.lines acts) c.in-Before.is passed.place in
+    let books = c.do_lines-lines.new.books in
+    let line = c.args.lines.line.items in
+    let result = c.do_lines-lines.result in
+    let d =
+    c.do_lines-lines.ensures.done clean left first begun acts (record { history = history; holds = holds; stands = record { done = passed.done; day = passed.day }; whole = b.whole; read = b.read }) in
+    λ is. lines_own g.S.Store first begun acts line d.0 c.args.lines.known result books d.2 (counted_own c.args.lines.known result (sym c.counted.ensures ∙ is))
+
+pub returns-in-Within-clause-own : goal.returns-in-Within-clause-own
+returns-in-Within-clause-own g c clean left first begun acts history holds passed =
+    let d = c.go_within.ensures.done clean first begun acts history holds (record { done = passed.done; day = passed.day }) in
+    rest_own g.S.Store first begun acts d.0 c.args.lines.known c.go_within.result c.go_within.new.books d.2

@@ -1,5 +1,4 @@
-use Rattle.std.proofs.Common.{[], Ok, Err, refl, ap, sym, subst, ◌∙◌}
-use Rattle.applies.specs.Lines.{AreLinesDone, AreBehindDone}
+use Rattle.applies.proofs.Words.{[], Ok, Err, refl, ap, sym, subst, ◌∙◌, AreLinesDone, AreBehindDone}
 use Rattle.applies.proofs.Texts.{told_on, told_at_end, told_weaker}
 use Rattle.applies.proofs.Passed.{behind_of, long_behind}
 use Rattle.applies.proofs.known.go_within.Goals as goal

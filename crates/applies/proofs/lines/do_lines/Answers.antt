@@ -1,9 +1,4 @@
-use Rattle.std.proofs.Common.{◌++◌, Ok, ap, subst, inl, ◌∙◌}
-use Rattle.std.specs.Prelude.{◌⊎◌}
-use Rattle.sqlite.specs.Held.{state}
-use Rattle.applies.specs.Going.{IsOfNoLine}
-use Rattle.applies.specs.Lines.{MisfitsThere, IsLineAdded, LeavesLine}
-use Rattle.applies.specs.declared.applied.NotApplied.TheVariants.{Store}
+use Rattle.applies.proofs.Words.{◌++◌, Ok, ap, subst, inl, ◌∙◌, ◌⊎◌, state, IsOfWant, MisfitsThere, IsLineAdded, LeavesLine, Store}
 use Rattle.applies.proofs.Loop.{one_done, next_read, ended, fails_behind, fails_at, leaves_at}
 use Rattle.applies.proofs.WalkEnds.{then_left}
 use Rattle.applies.proofs.lines.do_lines.Goals as goal
@@ -28,7 +23,7 @@ returns-in-Err-clause-done g c clean left first begun acts s =
     let m = c.lines.invariant.comes (c.do_line.ensures.clean clean) left first begun acts s in
     let h = c.in-Err.ensures.done clean first begun (m.newer ++ acts) m.history m.holds m.stands in
     fails_at g.S.Store g.R.Read.remaining left first begun acts c.args.line.items c.args.at.lines c.lines.at c.lines.reader c.lines.line.items c.lines.books c.do_line.new.books m c.in-Err.fault h.0
-    (subst (λ l. IsOfNoLine c.in-Err.fault ⊎ MisfitsThere first begun (m.newer ++ acts) c.lines.at.lines l c.in-Err.fault) c.as_slice.ensures.value h.1)
+    (subst (λ l. IsOfWant c.in-Err.fault ⊎ MisfitsThere first begun (m.newer ++ acts) c.lines.at.lines l c.in-Err.fault) c.as_slice.ensures.value h.1)
 
 pub returns-in-Err-clause-survives : goal.returns-in-Err-clause-survives
 returns-in-Err-clause-survives g c =

@@ -1,12 +1,5 @@
 -- A line was read, and all before it were done.
-use Rattle.std.proofs.Common.{List, Option}
-use Rattle.std.specs.Prelude.{ℕ, ℤ}
-use Rattle.sqlite.specs.Held.{state}
-use Rattle.sqlite.specs.State.{Survives}
-use Rattle.machine.specs.Acts.{Act}
-use Rattle.store.specs.Books.{IsClean}
-use Rattle.applies.specs.Going.{OfText}
-use Rattle.applies.specs.Lines.{Stands, LeavesLines}
+use Rattle.applies.proofs.Words.{List, Option, ℕ, ℤ, state, Survives, Act, IsClean, OfText, Stands, LeavesLines}
 use Rattle.applies.proofs.Loop.{Comes}
 use Rattle.applies.proofs.lines.do_lines.Given as goal
 

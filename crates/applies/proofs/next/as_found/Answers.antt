@@ -1,5 +1,4 @@
-use Rattle.std.proofs.Common.{◌<◌, ◌^◌, inr, rules, subst}
-use Rattle.applies.specs.Fields.{Reads}
+use Rattle.applies.proofs.Words.{◌<◌, ◌^◌, inr, rules, subst, Reads}
 use Rattle.applies.proofs.NextLine.{none_read, placed_at}
 use Rattle.applies.proofs.next.as_found.Goals as goal
 

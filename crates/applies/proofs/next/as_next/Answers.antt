@@ -1,5 +1,4 @@
-use Rattle.std.proofs.Common.{◌≡◌, ◌<◌, ◌^◌, true, false, inr, rules, sym, ◌∙◌, true≢false}
-use Rattle.machine.specs.Once.{is_key_of}
+use Rattle.applies.proofs.Words.{◌≡◌, ◌<◌, ◌^◌, true, false, inr, rules, sym, ◌∙◌, true≢false, is_key_of}
 use Rattle.applies.proofs.NextLine.{none_kind, none_line, is_next, placed_at}
 use Rattle.applies.proofs.next.as_next.Goals as goal
 

@@ -1,6 +1,4 @@
-use Rattle.std.proofs.Common.{inl, inr}
-use Rattle.std.proofs.lemmas.Result.{err_from_is_err_and}
-use Rattle.sqlite.proofs.StateLemmas.{survives_weaker}
+use Rattle.applies.proofs.Words.{inl, inr, err_from_is_err_and, survives_weaker}
 use Rattle.applies.proofs.NextLine.{misfits}
 use Rattle.applies.proofs.next.do_line.Goals as goal
 

@@ -1,5 +1,4 @@
-use Rattle.std.proofs.Common.{refl}
-use Rattle.sqlite.proofs.StateLemmas.{survives_weaker}
+use Rattle.applies.proofs.Words.{refl, survives_weaker}
 use Rattle.applies.proofs.NextLine.{added, wrong, leaves}
 use Rattle.applies.proofs.next.do_next.Goals as goal
 

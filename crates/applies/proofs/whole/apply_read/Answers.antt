@@ -1,9 +1,4 @@
-use Rattle.std.proofs.Common.{refl, Err, subst}
-use Rattle.std.proofs.lemmas.Result.{err_from_is_err_and}
-use Rattle.sqlite.specs.Held.{state}
-use Rattle.applies.specs.Begun.{FitsLine}
-use Rattle.applies.specs.Applying.{IsApplied, LeavesOneOf}
-use Rattle.applies.specs.Going.{GoesOn, Leaves}
+use Rattle.applies.proofs.Words.{refl, Err, subst, err_from_is_err_and, state, FitsLine, IsApplied, LeavesOneOf, GoesOn, Leaves}
 use Rattle.applies.proofs.Texts.{told_weaker}
 use Rattle.applies.proofs.Walked.{own_fault}
 use Rattle.applies.proofs.WalkEnds.{then_left}
@@ -49,3 +44,13 @@ returns-in_err-day-clause-every g c clean left first acts history holds read pla
     let b = c.in_err-day.ensures.begun clean first acts history holds in
     let (fault, is, same) = err_from_is_err_and c.from_residual.result c.from_residual.ensures.1 in
     rw is (rw same (taken_none_of g.S.Store left first acts c.in_err-day.field-0.0 c.find_begun.new.books c.in_err-day.ensures.fault b.0))
+
+pub returns-clause-foreign : goal.returns-clause-foreign
+returns-clause-foreign g c clean left first acts history holds read place =
+    let b = c.in_ok-day.ensures.begun (c.apply_lines.ensures.clean clean) first acts history holds in
+    c.apply_lines.ensures.foreign clean left first acts history b.0 (record { done = refl; known = refl; last = refl; read = read; place = place })
+
+pub returns-in_err-day-clause-foreign : goal.returns-in_err-day-clause-foreign
+returns-in_err-day-clause-foreign g c clean left first acts history holds read place =
+    let (fault, is, same) = err_from_is_err_and c.from_residual.result c.from_residual.ensures.1 in
+    rw is (rw same (c.in_err-day.ensures.foreign clean first acts history holds))

@@ -1,6 +1,4 @@
-use Rattle.std.proofs.Common.{◌≡◌, drop, find}
-use Rattle.commands.specs.declared.rows.CardRow.{CardRow}
-use Rattle.table_words.specs.Typed.{same_card, card_key}
+use Rattle.audits.proofs.Words.{◌≡◌, drop, find, CardRow, same_card, card_key}
 use Rattle.audits.proofs.first_day.card_day.Given as goal
 
 abbrev pub invariant-loop-row : goal.invariant-loop-row

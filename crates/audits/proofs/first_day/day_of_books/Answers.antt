@@ -1,9 +1,4 @@
-use Rattle.std.proofs.Common.{None, sym, subst}
-use Rattle.sqlite.specs.Held.{state}
-use Rattle.table_words.specs.Typed.{tables_in}
-use Rattle.goods_tables.specs.Meta.{meta}
-use Rattle.whole_tables.specs.Whole.{AreAll}
-use Rattle.audits.specs.Beginning.{IsBegun}
+use Rattle.audits.proofs.Words.{None, sym, subst, state, tables_in, meta, AreAll, IsBegun}
 use Rattle.audits.proofs.Beginning.{by_meta}
 use Rattle.audits.proofs.first_day.day_of_books.Goals as goal
 

@@ -1,11 +1,4 @@
-use Rattle.std.proofs.Common.{Some, sym, subst, ◌∙◌}
-use Rattle.sqlite.specs.Held.{state}
-use Rattle.table_words.specs.Typed.{tables_in}
-use Rattle.history_tables.specs.Cards.{cards, cards_laws}
-use Rattle.whole_tables.specs.Whole.{AreAll}
-use Rattle.whole_tables.proofs.Handing.{typed_are_all}
-use Rattle.spellings.specs.declared.start.Start.TheVariants.{Received}
-use Rattle.audits.specs.Beginning.{IsBegun}
+use Rattle.audits.proofs.Words.{Some, sym, subst, ◌∙◌, state, tables_in, cards, cards_laws, AreAll, typed_are_all, Received, IsBegun}
 use Rattle.audits.proofs.Beginning.{by_card}
 use Rattle.audits.proofs.first_day.day_of_receipt.Goals as goal
 

@@ -1,7 +1,4 @@
-use Rattle.std.proofs.Common.{Err, sym, subst, ◌∙◌}
-use Rattle.sqlite.specs.Held.{state}
-use Rattle.audits.specs.declared.finding.Unread.TheVariants.{Untyped}
-use Rattle.audits.specs.Halves.{SameHalf, TellsAlike}
+use Rattle.audits.proofs.Words.{Err, sym, subst, ◌∙◌, state, Untyped, SameHalf, TellsAlike}
 use Rattle.audits.proofs.InHalves.{half_untyped, half_failed, half_failed_too, half_told}
 use Rattle.audits.proofs.halves.half_alike.Goals as goal
 

@@ -1,9 +1,4 @@
-use Rattle.std.proofs.Common.{◌≡◌, ◌≢◌, OnOk, sym, subst}
-use Rattle.sqlite.specs.Held.{state}
-use Rattle.table_words.specs.declared.error.TableFault.TheVariants.{Foreign}
-use Rattle.table_words.proofs.CallLemmas.{on_ok_then, if_err}
-use Rattle.books_schema.specs.declared.ready_connection.Found.{Found}
-use Rattle.audits.specs.Raising.{IsBegunOver, AreShown, CannotBeRaised}
+use Rattle.audits.proofs.Words.{◌≡◌, ◌≢◌, OnOk, sym, subst, state, Foreign, on_ok_then, if_err, Found, IsBegunOver, AreShown, CannotBeRaised}
 use Rattle.audits.proofs.Raised.{shown_newest, shown_brought}
 use Rattle.audits.proofs.newest_tables.raise.Goals as goal
 

@@ -1,9 +1,4 @@
-use Rattle.std.proofs.Common.{sym, subst, arith}
-use Rattle.sqlite.specs.Held.{state}
-use Rattle.sqlite.specs.State.{HasCleanDisk}
-use Rattle.table_words.specs.Steps.{IsReady}
-use Rattle.table_words.proofs.CallLemmas.{if_both, on_ok_then}
-use Rattle.books_schema.proofs.SettleLemmas.{own_rows}
+use Rattle.audits.proofs.Words.{sym, subst, arith, state, HasCleanDisk, IsReady, if_both, on_ok_then, own_rows}
 use Rattle.audits.proofs.Raised.{shown_still, shown_raised, raised_there}
 use Rattle.audits.proofs.newest_tables.raise_number.Goals as goal
 

@@ -1,7 +1,4 @@
-use Rattle.std.proofs.Common.{Err, sym, subst}
-use Rattle.sqlite.specs.Held.{state}
-use Rattle.audits.specs.declared.finding.Unread.TheVariants.{Untyped}
-use Rattle.audits.specs.Comparing.{Tells, SameTable}
+use Rattle.audits.proofs.Words.{Err, sym, subst, state, Untyped, SameCalled, Tells}
 use Rattle.audits.proofs.Telling.{told_untyped, told_failed, told_failed_too, told_rows}
 use Rattle.audits.proofs.one_table.compare.Goals as goal
 
@@ -11,7 +8,7 @@ returns-in-Err-Foreign-clause-tells g c =
     let o = state g.S.Store c.args.books.now.conn.now in
     let m = state g.S.Store c.all_rows.new.tx.conn.now in
     let b = state g.M.Store c.args.replayed.now.conn.now in
-    subst (λ name. Tells (SameTable d) o m b b (Err (Untyped name))) (sym c.table_name.ensures)
+    subst (λ name. Tells (SameCalled g.T.Compared.table_name) o m b b (Err (Untyped name))) (sym c.table_name.ensures)
     (told_untyped d g.T.Compared.table_name g.T.Compared.order g.T.Compared.named g.met.T.Compared.compared_laws o m b (rw c.in-Err-Foreign.field-0-is at c.in-Err-Foreign.ensures.finds))
 
 pub returns-in-Err-Store-clause-tells : goal.returns-in-Err-Store-clause-tells

@@ -1,9 +1,4 @@
-use Rattle.std.proofs.Common.{sym, subst}
-use Rattle.sqlite.specs.Held.{state}
-use Rattle.table_words.specs.Typed.{tables_in}
-use Rattle.history_tables.specs.Repeats.{repeats, repeats_laws}
-use Rattle.whole_tables.specs.Whole.{AreAll}
-use Rattle.whole_tables.proofs.Handing.{typed_are_all}
+use Rattle.audits.proofs.Words.{sym, subst, state, tables_in, repeats, repeats_laws, AreAll, typed_are_all}
 use Rattle.audits.proofs.reading.act_rows_about.Goals as goal
 
 pub returns-in-Ok-clause-rows : goal.returns-in-Ok-clause-rows

@@ -1,9 +1,4 @@
-use Rattle.std.proofs.Common.{sym, subst, IsTrue}
-use Rattle.std.proofs.lemmas.Result.{err_from_is_err_and}
-use Rattle.label.specs.Days.{is_business_day}
-use Rattle.sqlite.specs.Held.{state}
-use Rattle.slices.specs.Books.{IsBooksOf}
-use Rattle.audits.specs.Auditing.{AreNone}
+use Rattle.audits.proofs.Words.{sym, subst, IsTrue, err_from_is_err_and, is_business_day, state, IsBooksOf, AreNone}
 use Rattle.audits.proofs.Unreplayed.{none_of}
 use Rattle.audits.proofs.replayed.act_rows.Goals as goal
 

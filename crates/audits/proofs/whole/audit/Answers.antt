@@ -1,16 +1,5 @@
-use Rattle.std.proofs.Common.{◌≡◌, inl, inr, arith, sym, subst, ◌∙◌}
-use Rattle.std.specs.Prelude.{◌⊎◌}
-use Rattle.sqlite.specs.Held.{state}
-use Rattle.sqlite.specs.State.{HasCleanDisk}
-use Rattle.sqlite.specs.Tree.{Trees}
-use Rattle.table_words.proofs.CallLemmas.{if_err}
-use Rattle.books_schema.specs.Opening.{IsOfNone}
-use Rattle.books_schema.specs.declared.ready_connection.Found.{Found}
-use Rattle.store.specs.Opening.{AreRowsAt}
+use Rattle.audits.proofs.Words.{◌≡◌, inl, inr, arith, sym, subst, ◌∙◌, ◌⊎◌, state, HasCleanDisk, Trees, if_err, IsOfNone, Found, AreRowsAt, one_found, foreign_if, store_else, either_told, CannotBeRaised, IsFound, IsFinding, AreNotRaised}
 use Rattle.store.specs.declared.fault.Fault.TheVariants.{Foreign}
-use Rattle.store.proofs.OpenedBooks.{one_found, foreign_if, store_else, either_told}
-use Rattle.audits.specs.Raising.{CannotBeRaised}
-use Rattle.audits.specs.Auditing.{IsFound, IsFinding, AreNotRaised}
 use Rattle.audits.proofs.Telling.{earlier}
 use Rattle.audits.proofs.Findings.{if_ok_then, store_left}
 use Rattle.audits.proofs.Raised.{raised_of_acts, sound_books}

@@ -1,12 +1,4 @@
-use Rattle.std.proofs.Common.{◌≡◌, IfOk, sym, subst}
-use Rattle.sqlite.specs.Held.{state}
-use Rattle.sqlite.specs.Effect.{Database}
-use Rattle.sqlite.specs.State.{HasCleanDisk}
-use Rattle.table_words.specs.Steps.{IsReady}
-use Rattle.table_words.specs.Typed.{tables_in}
-use Rattle.history_tables.specs.Repeats.{repeats}
-use Rattle.whole_tables.specs.Whole.{AreAll}
-use Rattle.audits.specs.Auditing.{SaysIn}
+use Rattle.audits.proofs.Words.{◌≡◌, IfOk, sym, subst, state, Database, HasCleanDisk, IsReady, tables_in, repeats, AreAll, SaysIn}
 use Rattle.audits.proofs.Findings.{says_unread}
 use Rattle.audits.proofs.Telling.{earlier}
 use Rattle.audits.proofs.whole.audit_inside.Goals as goal

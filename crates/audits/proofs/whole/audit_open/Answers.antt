@@ -1,6 +1,4 @@
-use Rattle.std.proofs.Common.{rules}
-use Rattle.sqlite.specs.Held.{state}
-use Rattle.sqlite.specs.State.{HasCleanDisk}
+use Rattle.audits.proofs.Words.{rules, state, HasCleanDisk}
 use Rattle.audits.proofs.Telling.{earlier}
 use Rattle.audits.proofs.Raised.{begun_over}
 use Rattle.audits.proofs.whole.audit_open.Goals as goal

@@ -1,9 +1,4 @@
-use Rattle.std.proofs.Common.{sym, ◌∙◌}
-use Rattle.sqlite.specs.Held.{state}
-use Rattle.sqlite.specs.State.{HasCleanDisk}
-use Rattle.store.proofs.OpenedBooks.{foreign_if, either_told}
-use Rattle.audits.specs.Raising.{CannotBeRaised}
-use Rattle.audits.specs.Auditing.{SaysIn, IsFound}
+use Rattle.audits.proofs.Words.{sym, ◌∙◌, state, HasCleanDisk, foreign_if, either_told, CannotBeRaised, SaysIn, IsFound}
 use Rattle.audits.proofs.Telling.{earlier}
 use Rattle.audits.proofs.Findings.{if_ok_then, never_of_store, either_of_store}
 use Rattle.audits.proofs.Raised.{found_shown}

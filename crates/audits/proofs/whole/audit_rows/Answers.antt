@@ -1,11 +1,4 @@
-use Rattle.std.proofs.Common.{IfOk, arith, length, reverse, refl, sym, ap, subst}
-use Rattle.std.proofs.lemmas.Option.{none-some}
-use Rattle.sqlite.specs.Held.{state}
-use Rattle.table_words.specs.Typed.{tables_in}
-use Rattle.history_tables.specs.Repeats.{repeats}
-use Rattle.whole_tables.specs.Whole.{AreAll}
-use Rattle.replays.specs.Spelled.{AreRepeats}
-use Rattle.audits.specs.Auditing.{SaysIn}
+use Rattle.audits.proofs.Words.{IfOk, arith, length, reverse, refl, sym, ap, subst, none-some, state, tables_in, repeats, AreAll, AreRepeats, SaysIn}
 use Rattle.audits.proofs.Findings.{says_unnumbered, repeats_by_act, in_place}
 use Rattle.audits.proofs.whole.audit_rows.Goals as goal
 

@@ -1,13 +1,4 @@
-use Rattle.std.proofs.Common.{◌≡◌, IfOk, Some, None, reverse, sym, subst}
-use Rattle.sqlite.specs.Held.{state}
-use Rattle.sqlite.specs.Effect.{Database}
-use Rattle.sqlite.specs.State.{HasCleanDisk}
-use Rattle.table_words.specs.Steps.{IsReady}
-use Rattle.table_words.specs.Typed.{tables_in}
-use Rattle.replays.specs.Spelled.{AreRepeats}
-use Rattle.replays.specs.Starting.{Tell, TellFirst}
-use Rattle.audits.specs.Beginning.{IsBegun}
-use Rattle.audits.specs.Auditing.{SaysIn}
+use Rattle.audits.proofs.Words.{◌≡◌, IfOk, Some, None, reverse, sym, subst, state, Database, HasCleanDisk, IsReady, tables_in, AreRepeats, Tell, TellFirst, IsBegun, SaysIn}
 use Rattle.audits.proofs.Telling.{earlier}
 use Rattle.audits.proofs.Findings.{says_untyped, says_missing, says_told, if_ok_then}
 use Rattle.audits.proofs.whole.audit_told.Goals as goal

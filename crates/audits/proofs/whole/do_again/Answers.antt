@@ -1,7 +1,4 @@
-use Rattle.std.proofs.Common.{length, ap, subst}
-use Rattle.sqlite.specs.Held.{state}
-use Rattle.replays.specs.Replaying.{Spell, BreakUnspelled, BreakRefused}
-use Rattle.audits.specs.Auditing.{AreNone}
+use Rattle.audits.proofs.Words.{length, ap, subst, state, Spell, BreakUnspelled, BreakRefused, AreNone}
 use Rattle.audits.proofs.Findings.{found_held, says_unspelled, says_refused, if_ok_then}
 use Rattle.audits.proofs.whole.do_again.Goals as goal
 

@@ -1,8 +1,4 @@
-use Rattle.std.proofs.Common.{IfOk, Ok, Err, Some, None, refl, sym, ap, subst, ◌∙◌}
-use Rattle.sqlite.specs.Held.{state}
-use Rattle.slices.specs.Books.{IsBooksOf}
-use Rattle.audits.specs.Auditing.{IsHeld}
-use Rattle.audits.specs.Comparing.{SameTables, AreSeen, Tells}
+use Rattle.audits.proofs.Words.{IfOk, Ok, Err, Some, None, refl, sym, ap, subst, ◌∙◌, state, IsBooksOf, IsHeld, SameTables, AreSeen, Tells}
 use Rattle.audits.proofs.Findings.{held_same, held_other, held_untyped, held_unread}
 use Rattle.audits.proofs.whole.hold_against.Goals as goal
 

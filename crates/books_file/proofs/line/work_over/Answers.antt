@@ -1,13 +1,8 @@
-use Rattle.std.proofs.Common.{List, ℕ, inl, inr, refl, ap, ap₂, true, false, Err}
+use Rattle.std.proofs.Common.{inl, inr, refl, ap, Err}
 use Rattle.sqlite.specs.Files.{over_files}
-use Rattle.sqlite.specs.Recovery.{Image}
 use Rattle.books_schema.specs.declared.ready_connection.Leftover.TheVariants.{Connection}
 use Rattle.line_work.proofs.NotBegun.{clean_before}
-use Rattle.books_file.proofs.Fresh.{seen_held, only_held}
 use Rattle.books_file.proofs.line.work_over.Goals as goal
-
-abbrev image : List ℕ → List ℕ → Image
-image log db = record { log = log; db = db }
 
 pub returns-in-Ok-close_files-clause-done : goal.returns-in-Ok-close_files-clause-done
 returns-in-Ok-close_files-clause-done g c =
@@ -74,23 +69,5 @@ returns-in-Err-clause-done g c =
       is_store = c.store_of.ensures;
     }
 
-pub returns-in-Err-default-Some-clause-done : goal.returns-in-Err-default-Some-clause-done
-returns-in-Err-default-Some-clause-done g c =
-    let cause = rw c.in-Err-default-Some.field-0-1-is at c.in-Err-default-Some.ensures.cause in
-    let files = cause.0 in
-    let log = cause.1 in
-    let db = cause.2 in
-    let start = g.S.Start in
-    record {
-      ended = refl;
-      silent = (refl, refl);
-      unused = refl;
-      opened = files;
-      found = ap₂ image (seen_held start.log start.db start.is_mixing files.log.is_log true files.log.key _ log.0 log.1) (seen_held start.log start.db start.is_mixing files.db.is_log false files.db.key _ db.0 db.1);
-      log_only = only_held start.log start.db start.is_mixing files.log.is_log true files.log.key _ log.0 log.1;
-      db_only = only_held start.log start.db start.is_mixing files.db.is_log false files.db.key _ db.0 db.1;
-      leaves = λ clean. (cause.3 clean).1;
-    }
-
-pub returns-in-Err-default-None-clause-done : goal.returns-in-Err-default-None-clause-done
-returns-in-Err-default-None-clause-done g c = (inl refl, refl, refl, refl)
+pub returns-in-Err-Failed-clause-done : goal.returns-in-Err-Failed-clause-done
+returns-in-Err-Failed-clause-done g c = (refl, (refl, refl, refl), rw c.in-Err-Failed.field-0-is at c.in-Err-Failed.ensures.failed)

@@ -1,4 +1,4 @@
-use Rattle.std.proofs.Common.{◌≡◌, map, take}
+use Rattle.books_schema.proofs.Words.{◌≡◌, map, take}
 use Rattle.table_words.specs.Schema.{column}
 use Rattle.books_schema.proofs.checking.are_columns.Given as goal
 

@@ -1,9 +1,4 @@
-use Rattle.std.proofs.Common.{List, sym, ap, subst, ◌∙◌}
-use Rattle.std.specs.List.{list_all}
-use Rattle.sqlite.specs.Schema.{Schema}
-use Rattle.sqlite.specs.Table.{Table}
-use Rattle.table_words.specs.Schema.{is_harmless}
-use Rattle.books_schema.specs.Layouts.{BeginsWithTables}
+use Rattle.books_schema.proofs.Words.{List, sym, ap, subst, ◌∙◌, list_all, Schema, Table, is_harmless, BeginsWithTables}
 use Rattle.books_schema.proofs.checking.has_tables.Goals as goal
 
 pub returns : goal.returns

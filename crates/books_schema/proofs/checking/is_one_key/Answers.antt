@@ -1,5 +1,4 @@
-use Rattle.std.proofs.Common.{◌≡◌, [], ◌∷◌, sym, ap, ◌∙◌, arith, rules}
-use Rattle.table_words.proofs.ListLemmas.{only_is}
+use Rattle.books_schema.proofs.Words.{◌≡◌, [], ◌∷◌, sym, ap, ◌∙◌, arith, rules, only_is}
 use Rattle.books_schema.proofs.checking.is_one_key.Goals as goal
 
 pub returns-in-len1 : goal.returns-in-len1

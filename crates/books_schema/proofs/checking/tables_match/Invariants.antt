@@ -1,5 +1,4 @@
-use Rattle.std.proofs.Common.{◌≡◌, map, take}
-use Rattle.books_schema.specs.Layouts.{table_of}
+use Rattle.books_schema.proofs.Words.{◌≡◌, map, take, table_of}
 use Rattle.books_schema.proofs.checking.tables_match.Given as goal
 
 abbrev pub invariant-loop-at : goal.invariant-loop-at

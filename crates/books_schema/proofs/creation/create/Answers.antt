@@ -1,11 +1,4 @@
-use Rattle.std.proofs.Common.{◌≡◌, ◌∙◌, IsTrue, rules, arith, sym}
-use Rattle.std.proofs.lemmas.Result.{on_ok_weaker}
-use Rattle.sqlite.specs.Held.{state}
-use Rattle.sqlite.specs.State.{HasCleanDisk, Survives}
-use Rattle.table_words.specs.Schema.{schema_0}
-use Rattle.books_schema.specs.Creation.{Holds, first_rows}
-use Rattle.books_schema.specs.Indexing.{HasIndexes}
-use Rattle.books_schema.specs.Opening.{TellTables}
+use Rattle.books_schema.proofs.Words.{◌≡◌, ◌∙◌, IsTrue, rules, arith, sym, on_ok_weaker, state, HasCleanDisk, Survives, schema_0, Holds, first_rows, HasIndexes, TellTables}
 use Rattle.books_schema.proofs.CreateLemmas.{begins_void}
 use Rattle.books_schema.proofs.EndLemmas.{then_so, survives_of}
 use Rattle.books_schema.proofs.OpenLemmas.{ready_tells}

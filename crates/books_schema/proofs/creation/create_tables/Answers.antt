@@ -1,5 +1,4 @@
-use Rattle.sqlite.specs.Held.{state}
-use Rattle.table_words.specs.Schema.{schema_0}
+use Rattle.books_schema.proofs.Words.{state, schema_0}
 use Rattle.books_schema.proofs.Texts.{meta_made, items_made, bins_made, lots_made, recalls_made, stock_made, orders_made, lines_made, staged_made, reserved_made, shipments_made, shiplines_made, cards_made, repeats_made, least_made, urgents_made}
 use Rattle.books_schema.proofs.CreateLemmas.{on_ok_then, void_grown, grown_holds}
 use Rattle.books_schema.proofs.creation.create_tables.Goals as goal

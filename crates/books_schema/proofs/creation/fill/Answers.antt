@@ -1,6 +1,4 @@
-use Rattle.std.proofs.Common.{IsTrue, arith}
-use Rattle.sqlite.specs.Held.{state}
-use Rattle.sqlite.specs.State.{HasCleanDisk}
+use Rattle.books_schema.proofs.Words.{IsTrue, arith, state, HasCleanDisk}
 use Rattle.books_schema.proofs.CreateLemmas.{filled}
 use Rattle.books_schema.proofs.creation.fill.Goals as goal
 

@@ -1,5 +1,4 @@
-use Rattle.sqlite.specs.Held.{state}
-use Rattle.table_words.proofs.CallLemmas.{was_inside, keeps}
+use Rattle.books_schema.proofs.Words.{state, was_inside, keeps}
 use Rattle.books_schema.proofs.DropLemmas.{drops_one}
 use Rattle.books_schema.proofs.dropping.drop_index.Goals as goal
 

@@ -1,7 +1,4 @@
-use Rattle.std.proofs.Common.{arith, codes}
-use Rattle.sqlite.specs.Held.{state}
-use Rattle.sqlite.specs.State.{HasCleanDisk}
-use Rattle.table_words.proofs.CallLemmas.{on_ok_then}
+use Rattle.books_schema.proofs.Words.{arith, codes, state, HasCleanDisk, on_ok_then}
 use Rattle.books_schema.proofs.DropLemmas.{all_gone}
 use Rattle.books_schema.proofs.DropTexts.{staged_by_gtin_dropped, reserved_by_gtin_dropped, shiplines_of_lot_dropped, orders_by_state_dropped}
 use Rattle.books_schema.proofs.dropping.drop_indexes.Goals as goal

@@ -1,11 +1,4 @@
-use Rattle.std.proofs.Common.{◌≡◌, Ok, Result, sym, subst}
-use Rattle.std.specs.Result.{IsErrAnd}
-use Rattle.std.proofs.lemmas.Result.{err_from_is_err_and}
-use Rattle.sqlite.specs.Held.{state}
-use Rattle.sqlite.specs.State.{State, HasCleanDisk}
-use Rattle.sqlite.specs.Steps.{FailsToCommit}
-use Rattle.sqlite.specs.declared.error.Error.{Error}
-use Rattle.books_schema.specs.Ending.{Ends}
+use Rattle.books_schema.proofs.Words.{◌≡◌, Ok, Result, sym, subst, IsErrAnd, err_from_is_err_and, state, State, HasCleanDisk, FailsToCommit, Error, Ends}
 use Rattle.books_schema.proofs.ending.finish.Goals as goal
 
 commit_fails : {T E : Type 0} (made : Error → E → Type 0) (done r : Result T E) (x : T) (cause : Error) (last new : State) → done ≡ Ok x → IsErrAnd r (made cause) → (HasCleanDisk new → FailsToCommit last new cause) → Ends made done r last new

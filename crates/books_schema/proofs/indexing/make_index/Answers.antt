@@ -1,5 +1,4 @@
-use Rattle.sqlite.specs.Held.{state}
-use Rattle.table_words.proofs.CallLemmas.{was_inside, keeps, refuses, on_err}
+use Rattle.books_schema.proofs.Words.{state, was_inside, keeps, refuses, on_err}
 use Rattle.books_schema.proofs.IndexLemmas.{indexes_one}
 use Rattle.books_schema.proofs.indexing.make_index.Goals as goal
 

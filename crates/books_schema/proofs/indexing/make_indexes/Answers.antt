@@ -1,6 +1,4 @@
-use Rattle.std.proofs.Common.{arith, codes}
-use Rattle.sqlite.specs.Held.{state}
-use Rattle.sqlite.specs.State.{HasCleanDisk}
+use Rattle.books_schema.proofs.Words.{arith, codes, state, HasCleanDisk}
 use Rattle.books_schema.proofs.CreateLemmas.{on_ok_then}
 use Rattle.books_schema.proofs.IndexLemmas.{indexed_then, indexed_none, on_err_then}
 use Rattle.books_schema.proofs.IndexTexts.{staged_by_gtin_made, reserved_by_gtin_made}

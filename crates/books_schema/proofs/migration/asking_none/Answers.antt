@@ -1,9 +1,4 @@
-use Rattle.std.proofs.Common.{◌≡◌, IfErr, ◌∙◌, ap, map}
-use Rattle.sqlite.specs.Held.{state}
-use Rattle.table_words.specs.Schema.{items_tree}
-use Rattle.table_words.specs.declared.error.TableFault.TheVariants.{Foreign}
-use Rattle.keyed_rows.proofs.Writing.{same_error}
-use Rattle.books_schema.specs.Bringing.{row_of, AreItemsTyped}
+use Rattle.books_schema.proofs.Words.{◌≡◌, IfErr, ◌∙◌, ap, map, state, items_tree, Foreign, same_error, row_of, AreItemsTyped}
 use Rattle.books_schema.proofs.BringLemmas.{all_stored, all_read}
 use Rattle.books_schema.proofs.migration.asking_none.Goals as goal
 

@@ -1,12 +1,4 @@
-use Rattle.std.proofs.Common.{◌≡◌, ℤ, IfErr, sym, subst, arith}
-use Rattle.sqlite.specs.Held.{state}
-use Rattle.sqlite.specs.State.{HasCleanDisk}
-use Rattle.table_words.proofs.CallLemmas.{kept_then}
-use Rattle.table_words.specs.declared.error.TableFault.TheVariants.{Foreign}
-use Rattle.keyed_rows.proofs.Writing.{same_error}
-use Rattle.books_schema.specs.Bringing.{AreFillersTyped, Fills}
-use Rattle.books_schema.specs.Older.{number}
-use Rattle.books_schema.specs.Settling.{HasDayAt}
+use Rattle.books_schema.proofs.Words.{◌≡◌, ℤ, IfErr, sym, subst, arith, state, HasCleanDisk, kept_then, Foreign, same_error, AreFillersTyped, Fills, number, HasDayAt}
 use Rattle.books_schema.proofs.BringLemmas.{meta_kept, same_day, same_fillers, same_room, filled, same_filling, same_row}
 use Rattle.books_schema.proofs.SettleLemmas.{day_of_row}
 use Rattle.books_schema.proofs.migration.bring.Goals as goal

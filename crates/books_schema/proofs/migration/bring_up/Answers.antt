@@ -1,20 +1,4 @@
-use Rattle.std.proofs.Common.{◌≡◌, true, false, ℤ, Result, ◌∙◌, OnOk, OnErr, IfErr, IsTrue, rules, arith, sym, subst}
-use Rattle.std.proofs.lemmas.Result.{on_ok_weaker}
-use Rattle.sqlite.specs.Effect.{Database}
-use Rattle.sqlite.specs.Held.{state}
-use Rattle.sqlite.specs.State.{State, HasCleanDisk, Shows, IsRolledBack, KeepsCommit, Survives}
-use Rattle.sqlite.specs.Tree.{Trees}
-use Rattle.table_words.specs.Steps.{IsReady}
-use Rattle.table_words.specs.declared.error.TableFault.{TableFault}
-use Rattle.table_words.specs.declared.error.TableFault.TheVariants.{Foreign as ForeignTable, Store as TableStore}
-use Rattle.table_words.proofs.CallLemmas.{put_back}
-use Rattle.books_schema.specs.Bringing.{AreFillersTyped, IsOlderReady, IsBrought, IsFilled}
-use Rattle.books_schema.specs.Ending.{Ends}
-use Rattle.books_schema.specs.Indexing.{HasIndexes}
-use Rattle.books_schema.specs.Older.{number}
-use Rattle.books_schema.specs.Opening.{TellTables}
-use Rattle.books_schema.specs.Settling.{HasDayAt}
-use Rattle.books_schema.specs.declared.older.OlderBooks.{OlderBooks}
+use Rattle.books_schema.proofs.Words.{◌≡◌, true, false, ℤ, Result, ◌∙◌, OnOk, OnErr, IfErr, IsTrue, rules, arith, sym, subst, on_ok_weaker, Database, state, State, HasCleanDisk, Shows, IsRolledBack, KeepsCommit, Survives, Trees, IsReady, TableFault, Foreign as ForeignTable, Store as TableStore, put_back, AreFillersTyped, IsOlderReady, IsBrought, IsFilled, Ends, HasIndexes, number, TellTables, HasDayAt, OlderBooks}
 use Rattle.books_schema.proofs.EndLemmas.{err_of, whole_of, undone_of, if_so, survives_of}
 use Rattle.books_schema.proofs.OpenLemmas.{ready_tells}
 use Rattle.books_schema.proofs.BringLemmas.{begins_older}

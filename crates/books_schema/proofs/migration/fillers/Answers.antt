@@ -1,5 +1,4 @@
-use Rattle.sqlite.specs.Held.{state}
-use Rattle.sqlite.proofs.StateLemmas.{unchanged}
+use Rattle.books_schema.proofs.Words.{state, unchanged}
 use Rattle.books_schema.proofs.migration.fillers.Goals as goal
 
 -- where nothing is read, nothing changes

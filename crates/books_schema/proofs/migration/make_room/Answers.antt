@@ -1,11 +1,4 @@
-use Rattle.std.proofs.Common.{◌≡◌, [], OnOk, ◌∙◌, ap, subst, refl, arith}
-use Rattle.sqlite.specs.Held.{state}
-use Rattle.sqlite.specs.State.{HasCleanDisk}
-use Rattle.table_words.proofs.CallLemmas.{on_ok_then}
-use Rattle.books_schema.specs.Bringing.{AreOlderRows, HasRoom}
-use Rattle.books_schema.specs.Older.{number, older_with, HasOurs}
-use Rattle.books_schema.specs.declared.older.OlderBooks.{OlderBooks}
-use Rattle.books_schema.specs.declared.older.OlderBooks.TheVariants.{First, Second}
+use Rattle.books_schema.proofs.Words.{◌≡◌, [], OnOk, ◌∙◌, ap, subst, refl, arith, state, HasCleanDisk, on_ok_then, AreOlderRows, HasRoom, number, older_with, HasOurs, OlderBooks, First, Second}
 use Rattle.books_schema.proofs.BringLemmas.{least_added, urgents_added, urgents_behind, bare_grown, grown_room}
 use Rattle.books_schema.proofs.migration.make_room.Goals as goal
 

@@ -1,15 +1,4 @@
-use Rattle.std.proofs.Common.{◌≡◌, ℤ, IfErr, sym, subst, arith}
-use Rattle.sqlite.specs.Effect.{Database}
-use Rattle.sqlite.specs.Held.{state}
-use Rattle.sqlite.specs.State.{HasCleanDisk}
-use Rattle.sqlite.proofs.Callers.{unchanged_then}
-use Rattle.table_words.specs.Steps.{IsReady}
-use Rattle.table_words.proofs.CallLemmas.{kept_then}
-use Rattle.table_words.specs.declared.error.TableFault.TheVariants.{Foreign}
-use Rattle.keyed_rows.proofs.Writing.{same_error}
-use Rattle.books_schema.specs.Bringing.{AreFillersTyped}
-use Rattle.books_schema.specs.Older.{number}
-use Rattle.books_schema.specs.Settling.{HasDayAt}
+use Rattle.books_schema.proofs.Words.{◌≡◌, ℤ, IfErr, sym, subst, arith, Database, state, HasCleanDisk, unchanged_then, IsReady, kept_then, Foreign, same_error, AreFillersTyped, number, HasDayAt}
 use Rattle.books_schema.proofs.BringLemmas.{same_filling}
 use Rattle.books_schema.proofs.migration.read_old.Goals as goal
 

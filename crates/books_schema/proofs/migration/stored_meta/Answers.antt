@@ -1,11 +1,4 @@
-use Rattle.std.proofs.Common.{◌≡◌, ℤ, IfOk, IfErr, sym, subst}
-use Rattle.sqlite.specs.Held.{state}
-use Rattle.sqlite.specs.State.{HasCleanDisk}
-use Rattle.table_words.specs.Steps.{IsReady}
-use Rattle.table_words.specs.declared.error.TableFault.TheVariants.{Foreign}
-use Rattle.books_schema.specs.Older.{number}
-use Rattle.books_schema.specs.Settling.{HasRow, HasDayAt}
-use Rattle.books_schema.specs.declared.older.OlderBooks.{OlderBooks}
+use Rattle.books_schema.proofs.Words.{◌≡◌, ℤ, IfOk, IfErr, sym, subst, state, HasCleanDisk, IsReady, Foreign, number, HasRow, HasDayAt, OlderBooks}
 use Rattle.books_schema.proofs.migration.stored_meta.Goals as goal
 
 pub returns-in-First-clause-row : goal.returns-in-First-clause-row

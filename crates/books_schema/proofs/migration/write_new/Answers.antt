@@ -1,8 +1,4 @@
-use Rattle.std.proofs.Common.{arith}
-use Rattle.sqlite.specs.Held.{state}
-use Rattle.sqlite.specs.State.{HasCleanDisk}
-use Rattle.table_words.proofs.CallLemmas.{kept_then, on_ok_then, if_both}
-use Rattle.books_schema.specs.Older.{number}
+use Rattle.books_schema.proofs.Words.{arith, state, HasCleanDisk, kept_then, on_ok_then, if_both, number}
 use Rattle.books_schema.proofs.BringLemmas.{written}
 use Rattle.books_schema.proofs.migration.write_new.Goals as goal
 

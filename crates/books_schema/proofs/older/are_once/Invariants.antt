@@ -1,6 +1,4 @@
-use Rattle.std.proofs.Common.{◌≡◌, drop}
-use Rattle.table_words.specs.Found.{no_two}
-use Rattle.books_schema.specs.Older.{same_named}
+use Rattle.books_schema.proofs.Words.{◌≡◌, drop, no_two, same_named}
 use Rattle.books_schema.proofs.older.are_once.Given as goal
 
 -- whether no two of them have one name hangs on those that are left

@@ -1,5 +1,4 @@
-use Rattle.std.proofs.Common.{◌≡◌, map, take}
-use Rattle.books_schema.specs.Layouts.{key_of}
+use Rattle.books_schema.proofs.Words.{◌≡◌, map, take, key_of}
 use Rattle.books_schema.proofs.older.keys_match.Given as goal
 
 abbrev pub invariant-loop-at : goal.invariant-loop-at

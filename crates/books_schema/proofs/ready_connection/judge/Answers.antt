@@ -1,5 +1,4 @@
-use Rattle.books_schema.specs.declared.older.OlderBooks.TheVariants.{First, Second}
-use Rattle.books_schema.specs.declared.ready_connection.Found.TheVariants.{Newest, Older}
+use Rattle.books_schema.proofs.Words.{First, Second, Newest, Older}
 use Rattle.books_schema.proofs.ready_connection.judge.Goals as goal
 
 pub returns-then-branch-clause-other : goal.returns-then-branch-clause-other

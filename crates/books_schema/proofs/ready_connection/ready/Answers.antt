@@ -1,8 +1,4 @@
-use Rattle.std.proofs.Common.{◌≡◌, sym, ap, subst, ◌∙◌}
-use Rattle.std.specs.Prelude.{not, IsTrue}
-use Rattle.sqlite.specs.Effect.{Database}
-use Rattle.sqlite.specs.Held.{state}
-use Rattle.books_schema.specs.Opening.{HasSchema, IsReadyAs}
+use Rattle.books_schema.proofs.Words.{◌≡◌, sym, ap, subst, ◌∙◌, inl, inr, arith, not, IsTrue, Database, state, HasCleanDisk, Store, HasSchema, IsReadyAs}
 use Rattle.books_schema.proofs.OpenLemmas.{found_committed, closed_left}
 use Rattle.books_schema.proofs.ready_connection.ready.Goals as goal
 
@@ -42,3 +38,9 @@ pub returns-in-Err-find_open-clause-left : goal.returns-in-Err-find_open-clause-
 returns-in-Err-find_open-clause-left g c =
     let tried = c.find_open.ensures in
     closed_left g.S.Store c.args.conn c.find_open.new.conn c.into_store.result tried.clean tried.shield tried.crash c.in-Err-find_open.ensures.failed c.into_store.ensures.undone c.into_store.ensures.quiet
+
+pub returns-in-Err-find_open-clause-cause : goal.returns-in-Err-find_open-clause-cause
+returns-in-Err-find_open-clause-cause g c clean up =
+    let quiet = c.into_store.ensures.quiet in
+    let was : HasCleanDisk (state g.S.Store c.find_open.new.conn) = omega (arith, clean, quiet.clean) in
+    elim (c.in-Err-find_open.ensures.cause was up) [ inl memory ↦ inl (ap Store memory) | inr more ↦ inr (omega (arith, more, quiet.counts)) ]

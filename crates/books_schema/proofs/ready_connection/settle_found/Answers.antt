@@ -1,10 +1,4 @@
-use Rattle.std.proofs.Common.{◌≡◌, ℤ, IfErr, sym, subst}
-use Rattle.sqlite.specs.Held.{state}
-use Rattle.sqlite.specs.State.{HasCleanDisk, Survives}
-use Rattle.table_words.specs.declared.error.TableFault.TheVariants.{Foreign}
-use Rattle.table_words.proofs.CallLemmas.{if_err}
-use Rattle.books_schema.specs.Opening.{IsReadyAs, HasDayIn, AreReadTyped, ComesTo, TellTables}
-use Rattle.books_schema.specs.declared.ready_connection.Found.{Found}
+use Rattle.books_schema.proofs.Words.{◌≡◌, ℤ, IfErr, sym, subst, state, HasCleanDisk, Survives, Foreign, if_err, IsReadyAs, HasDayIn, AreReadTyped, ComesTo, TellTables, Found}
 use Rattle.books_schema.proofs.ready_connection.settle_found.Goals as goal
 
 pub returns-in-Newest-clause-foreign : goal.returns-in-Newest-clause-foreign

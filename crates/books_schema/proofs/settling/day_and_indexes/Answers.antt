@@ -1,10 +1,4 @@
-use Rattle.std.proofs.Common.{◌≡◌, ℤ, IfErr, arith}
-use Rattle.sqlite.specs.Held.{state}
-use Rattle.sqlite.specs.State.{HasCleanDisk}
-use Rattle.table_words.specs.declared.error.TableFault.TheVariants.{Foreign}
-use Rattle.table_words.proofs.CallLemmas.{kept_then}
-use Rattle.keyed_rows.proofs.Writing.{same_error}
-use Rattle.books_schema.specs.Settling.{HasDay}
+use Rattle.books_schema.proofs.Words.{◌≡◌, ℤ, IfErr, arith, state, HasCleanDisk, Foreign, kept_then, same_error, HasDay}
 use Rattle.books_schema.proofs.SettleLemmas.{numbers_then}
 use Rattle.books_schema.proofs.settling.day_and_indexes.Goals as goal
 

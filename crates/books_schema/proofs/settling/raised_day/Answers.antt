@@ -1,12 +1,4 @@
-use Rattle.std.proofs.Common.{◌≡◌, ℤ, IfErr, sym, subst, arith}
-use Rattle.sqlite.specs.Held.{state}
-use Rattle.sqlite.specs.State.{HasCleanDisk}
-use Rattle.table_words.specs.Steps.{IsReady}
-use Rattle.table_words.specs.declared.error.TableFault.TheVariants.{Foreign}
-use Rattle.table_words.proofs.CallLemmas.{kept_then}
-use Rattle.keyed_rows.proofs.Writing.{same_error}
-use Rattle.books_schema.specs.Settling.{HasDayAt}
-use Rattle.books_schema.specs.declared.settling.TheConstants.{THIRD}
+use Rattle.books_schema.proofs.Words.{◌≡◌, ℤ, IfErr, sym, subst, arith, state, HasCleanDisk, IsReady, Foreign, kept_then, same_error, HasDayAt, THIRD}
 use Rattle.books_schema.proofs.SettleLemmas.{day_of_row, own_rows, raised_numbers, never_lost}
 use Rattle.books_schema.proofs.settling.raised_day.Goals as goal
 

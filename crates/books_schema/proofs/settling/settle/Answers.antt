@@ -1,13 +1,4 @@
-use Rattle.std.proofs.Common.{◌≡◌, ◌∙◌, ℤ, IfErr, rules, arith, sym}
-use Rattle.std.proofs.lemmas.Result.{on_ok_weaker}
-use Rattle.sqlite.specs.Effect.{Database}
-use Rattle.sqlite.specs.Held.{state}
-use Rattle.sqlite.specs.State.{HasCleanDisk, Survives}
-use Rattle.table_words.specs.Steps.{IsReady}
-use Rattle.table_words.specs.declared.error.TableFault.TheVariants.{Foreign as ForeignTable, Store as TableStore}
-use Rattle.books_schema.specs.Opening.{TellTables}
-use Rattle.books_schema.specs.Indexing.{HasIndexes}
-use Rattle.books_schema.specs.Settling.{HasDay, IsNumbered, Numbers}
+use Rattle.books_schema.proofs.Words.{◌≡◌, ◌∙◌, ℤ, IfErr, rules, arith, sym, on_ok_weaker, Database, state, HasCleanDisk, Survives, IsReady, Foreign as ForeignTable, Store as TableStore, TellTables, HasIndexes, HasDay, IsNumbered, Numbers}
 use Rattle.books_schema.proofs.EndLemmas.{err_of, if_so, survives_of}
 use Rattle.books_schema.proofs.OpenLemmas.{ready_tells}
 use Rattle.books_schema.proofs.SettleLemmas.{begun_state, as_begun, as_old}

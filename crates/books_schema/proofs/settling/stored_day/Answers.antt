@@ -1,12 +1,4 @@
-use Rattle.std.proofs.Common.{inl, inr, sym, subst, arith}
-use Rattle.sqlite.specs.Effect.{Database}
-use Rattle.sqlite.specs.Held.{state}
-use Rattle.sqlite.specs.State.{HasCleanDisk}
-use Rattle.commands.specs.declared.limits.TheConstants.{SCHEMA_VERSION}
-use Rattle.table_words.specs.Steps.{IsReady}
-use Rattle.table_words.proofs.CallLemmas.{kept_then, if_ok, if_err, on_ok_then}
-use Rattle.books_schema.specs.Settling.{HasDayAt}
-use Rattle.books_schema.specs.declared.settling.TheConstants.{THIRD}
+use Rattle.books_schema.proofs.Words.{inl, inr, sym, subst, arith, Database, state, HasCleanDisk, SCHEMA_VERSION, IsReady, kept_then, if_ok, if_err, on_ok_then, HasDayAt, THIRD}
 use Rattle.books_schema.proofs.SettleLemmas.{day_of_row, kept_numbers, numbers_after}
 use Rattle.books_schema.proofs.settling.stored_day.Goals as goal
 

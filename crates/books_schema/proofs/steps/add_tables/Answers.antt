@@ -1,14 +1,4 @@
-use Rattle.std.proofs.Common.{◌≡◌, ◌+◌, ◌<◌, ℕ, List, [], length, get_or, drop, ◌∷◌, Ok, refl, subst, ◌∙◌, arith}
-use Rattle.std.proofs.lemmas.Grind.{common_steps}
-use Rattle.sqlite.specs.State.{State, HasCleanDisk, ExecutesInside}
-use Rattle.sqlite.specs.Schema.{Schema}
-use Rattle.sqlite.specs.Change.{created}
-use Rattle.sqlite.specs.Tree.{Trees}
-use Rattle.sqlite.specs.Held.{state}
-use Rattle.table_words.proofs.CallLemmas.{was_inside, keeps, kept_itself, kept_then, inside_itself, inside_then}
-use Rattle.books_schema.specs.Layouts.{table_at}
-use Rattle.books_schema.specs.Growing.{IsGrown, AreMade, grown}
-use Rattle.books_schema.specs.declared.layouts.TableLayout.{TableLayout}
+use Rattle.books_schema.proofs.Words.{◌≡◌, ◌+◌, ◌<◌, ℕ, List, [], length, get_or, drop, ◌∷◌, Ok, refl, subst, ◌∙◌, arith, common_steps, State, HasCleanDisk, ExecutesInside, Schema, created, Trees, state, was_inside, keeps, kept_itself, kept_then, inside_itself, inside_then, table_at, IsGrown, AreMade, grown, TableLayout}
 use Rattle.books_schema.proofs.GrowLemmas.{grows}
 use Rattle.books_schema.proofs.steps.add_tables.Goals as goal
 

@@ -1,9 +1,4 @@
-use Rattle.std.proofs.Common.{◌≡◌, drop}
-use Rattle.sqlite.specs.Schema.{Schema}
-use Rattle.sqlite.specs.Tree.{Trees}
-use Rattle.sqlite.specs.State.{HasCleanDisk, Survives, KeepsCommit}
-use Rattle.sqlite.specs.Held.{state}
-use Rattle.books_schema.specs.Growing.{IsGrown, AreMade, grown}
+use Rattle.books_schema.proofs.Words.{◌≡◌, drop, Schema, Trees, HasCleanDisk, Survives, KeepsCommit, state, IsGrown, AreMade, grown}
 use Rattle.books_schema.proofs.steps.add_tables.Given as goal
 
 -- the tables that are left make of the schema now what all of them make of the first

@@ -1,12 +1,4 @@
-use Rattle.std.proofs.Common.{◌≡◌, ◌+◌, ◌<◌, ℕ, List, [], length, get_or, drop, ◌∷◌, ◌++◌, refl, sym, subst, ◌∙◌, arith}
-use Rattle.std.proofs.lemmas.Grind.{common_steps}
-use Rattle.sqlite.specs.State.{State, HasCleanDisk}
-use Rattle.sqlite.specs.Schema.{Schema}
-use Rattle.sqlite.specs.Tree.{Trees}
-use Rattle.sqlite.specs.Held.{state}
-use Rattle.table_words.proofs.CallLemmas.{kept_itself, kept_then, inside_itself, inside_then}
-use Rattle.books_schema.specs.Growing.{IsGrown, AreMade, grown, added_by, added_above}
-use Rattle.books_schema.specs.declared.steps.Step.{Step}
+use Rattle.books_schema.proofs.Words.{◌≡◌, ◌+◌, ◌<◌, ℕ, List, [], length, get_or, drop, ◌∷◌, ◌++◌, refl, sym, subst, ◌∙◌, arith, common_steps, State, HasCleanDisk, Schema, Trees, state, kept_itself, kept_then, inside_itself, inside_then, IsGrown, AreMade, grown, added_by, added_above, Step}
 use Rattle.books_schema.proofs.GrowLemmas.{made_first, made_then, grown_then}
 use Rattle.books_schema.proofs.steps.run_steps.Goals as goal
 

@@ -1,5 +1,4 @@
-use Rattle.sqlite.specs.Held.{state}
-use Rattle.keyed_rows.proofs.Writing.{writes_then}
+use Rattle.changes.proofs.Words.{state, writes_then}
 use Rattle.changes.proofs.rows.write_rows.Goals as goal
 
 pub returns-clause-writes : goal.returns-clause-writes

@@ -1,8 +1,4 @@
-use Rattle.std.proofs.Common.{refl, sym, ap}
-use Rattle.sqlite.specs.Held.{state}
-use Rattle.table_words.specs.Typed.{tables_in}
-use Rattle.table_words.proofs.CallLemmas.{kept_itself, inside_itself}
-use Rattle.changes.specs.Written.{stage_emptied}
+use Rattle.changes.proofs.Words.{refl, sym, ap, state, tables_in, kept_itself, inside_itself, stage_emptied}
 use Rattle.changes.proofs.writing.write_stage.Goals as goal
 
 pub returns-in-None-clause-writes : goal.returns-in-None-clause-writes

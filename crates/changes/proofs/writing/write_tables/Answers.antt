@@ -1,8 +1,22 @@
-use Rattle.std.proofs.Common.{Ok}
-use Rattle.sqlite.specs.Held.{state}
-use Rattle.keyed_rows.proofs.Writing.{writes_then}
+use Rattle.changes.proofs.Words.{◌<◌, length, refl, ◌∙◌, arith, common_steps, get_or_default, state, writes_first, writes_more, writes_failed, writes_all, table_written}
 use Rattle.changes.proofs.writing.write_tables.Goals as goal
+
+pub loop-table-init : goal.loop-table-init
+loop-table-init g c = (refl, writes_first (table_written c.args.change.now) (state g.S.Store c.args.tx.now.conn.now))
+
+pub loop-table-preserved : goal.loop-table-preserved
+loop-table-preserved g c =
+    let at = c.loop-table.table-index in
+    let low : at < length c.args.tables.now = grind (arith, common_steps) in (
+      c.in_ok-write_table.ensures.same_reference ∙ c.loop-table.invariant.0,
+      writes_more (table_written c.args.change.now) c.args.tables.now at _ (state g.S.Store c.args.tx.now.conn.now) (state g.S.Store c.loop-table.tx.conn.now) (state g.S.Store c.write_table.new.tx.conn.now)
+          low (get_or_default c.args.tables.now at _ _ low) c.loop-table.invariant.1 c.in_ok-write_table.ensures.writes,
+    )
+
+pub returns-in_err-write_table-clause-writes : goal.returns-in_err-write_table-clause-writes
+returns-in_err-write_table-clause-writes g c =
+    writes_failed _ _ _ (state g.S.Store c.args.tx.now.conn.now) (state g.S.Store c.loop-table.tx.conn.now) (state g.S.Store c.write_table.new.tx.conn.now) tt _ c.from_residual.result c.from_residual.ensures c.loop-table.invariant.1 c.in_err-write_table.ensures.writes
 
 pub returns-clause-writes : goal.returns-clause-writes
 returns-clause-writes g c =
-    writes_then _ _ (state g.S.Store c.args.tx.now.conn.now) (state g.S.Store c.write_history.new.tx.conn.now) (state g.S.Store c.put.new.tx.conn.now) tt c.put.result (writes_then _ _ (state g.S.Store c.args.tx.now.conn.now) (state g.S.Store c.write_orders.new.tx.conn.now) (state g.S.Store c.write_history.new.tx.conn.now) tt (Ok tt) (writes_then _ _ (state g.S.Store c.args.tx.now.conn.now) (state g.S.Store c.write_goods.new.tx.conn.now) (state g.S.Store c.write_orders.new.tx.conn.now) tt (Ok tt) c.in_ok-write_goods.ensures.writes c.in_ok-write_orders.ensures.writes) c.in_ok-write_history.ensures.writes) c.put.ensures.writes
+    writes_all (table_written c.args.change.now) c.args.tables.now c.loop-table.table-index (state g.S.Store c.args.tx.now.conn.now) (state g.S.Store c.loop-table.tx.conn.now) (grind (arith, common_steps)) c.loop-table.invariant.1

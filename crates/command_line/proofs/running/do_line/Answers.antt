@@ -11,6 +11,7 @@ returns-in-Ok g c =
     let flush = c.flush_done in
     inr (
       c.in-Ok.line,
+      (c.in-Ok.ensures.fails, c.in-Ok.ensures.read),
       out done.new.out,
       flush.ensures.kept,
       flushed (λ e. IsEndOf (g.B.BooksAt.ends c.args.books) (out c.args.out.now) (out done.new.out) (log c.args.log.now) (log done.new.log) c.in-Ok.line e done.result.0)

@@ -1,13 +1,6 @@
-use Rattle.std.proofs.Common.{List, ℕ, Option, Result, Ok, Err, inl, inr}
-use Rattle.std.specs.Prelude.{ℤ}
-use Rattle.std.proofs.KnownBytes.{Appends-nil}
-use Rattle.sqlite.specs.Held.{state}
-use Rattle.machine.specs.Acts.{Act}
-use Rattle.texts.specs.Writing.{Writes}
-use Rattle.histories.specs.Text.{history_text}
+use Rattle.histories.proofs.Words.{List, ℕ, Option, Result, Ok, Err, inl, inr, subst, ℤ, IfErr, Appends-nil, Database, state, Act, Writes, IsOfRows, history_text, IsHistoryPrinted}
 use Rattle.histories.specs.Start.{IsStart}
-use Rattle.histories.specs.Printed.{IsHistoryPrinted}
-use Rattle.histories.proofs.Twice.{was_clean, ready_on, held_on, left_on, survives_on}
+use Rattle.histories.proofs.Twice.{was_clean, shown, ready_on, held_on, left_on, survives_on}
 use Rattle.histories.proofs.printing.print_history.Goals as goal
 
 printed : {E : Type 0} (first : ℤ) (acts : List Act) (old new : Option (List ℕ)) (begun : ℤ) (r : Result Unit E) → IsStart first acts begun → Writes r old new (history_text begun acts) → IsHistoryPrinted first acts old new r
@@ -37,3 +30,14 @@ returns-in-Ok-clause-survives g c =
 
 pub returns-in-Err-clause-printed : goal.returns-in-Err-clause-printed
 returns-in-Err-clause-printed g c clean ready first acts history held today = inl (Appends-nil (g.W.Write.contents c.args.out))
+
+pub returns-in-Ok-clause-foreign : goal.returns-in-Ok-clause-foreign
+returns-in-Ok-clause-foreign g c clean ready first acts history held =
+    let a = state g.S.Store c.args.conn.now in
+    let b = state g.S.Store c.find_first_day.new.conn in
+    let d = state g.S.Store c.print_from.new.conn in
+    let one = c.in-Ok.ensures.survives in
+    let two = c.print_from.ensures.survives in
+    let same = c.in-Ok.ensures.same in
+    subst (λ (db : Database). IfErr c.print_from.result.1 (IsOfRows db.trees)) (shown a b d one two same clean ready)
+    (c.print_from.ensures.foreign clean (ready_on a b d one two same clean ready) first acts history (held_on a b d one two same first acts clean ready held))

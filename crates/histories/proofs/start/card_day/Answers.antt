@@ -1,12 +1,5 @@
-use Rattle.std.proofs.Common.{subst, Ok, Err, None}
-use Rattle.std.proofs.lemmas.Result.{IfOk-weaker}
-use Rattle.sqlite.specs.Held.{state}
-use Rattle.table_words.proofs.CallLemmas.{on_ok_if}
-use Rattle.each_row.specs.declared.fault.EachFault.{EachFault}
-use Rattle.each_row.specs.Handed.{HandsOver, IsLeft}
-use Rattle.histories.specs.Start.{IsPassed, TellsDay}
-use Rattle.histories.specs.declared.start.CardDay.{CardDay}
-use Rattle.histories.proofs.Kept.{lines, lines_own, day_told, stays}
+use Rattle.histories.proofs.Words.{sym, subst, ◌∙◌, Ok, Err, None, IfOk-weaker, IfErr-weaker, state, on_ok_if, EachFault, HandsOver, IsLeft, IsPassed, TellsDay, CardDay}
+use Rattle.histories.proofs.Kept.{lines, lines_own, day_told, line_there, own_fault, stays}
 use Rattle.histories.proofs.start.card_day.Goals as goal
 
 pub returns-in-Err-clause-day : goal.returns-in-Err-clause-day
@@ -26,3 +19,15 @@ returns-in-Err-clause-left g c clean ready = stays (state g.S.Store c.args.conn.
 pub returns-in-Err-clause-same : goal.returns-in-Err-clause-same
 returns-in-Err-clause-same g c clean ready =
     on_ok_if c.day_at.result _ c.day_at.ensures.day (λ d h. subst (λ (e : EachFault). IsLeft (state g.S.Store c.args.conn.now) (state g.S.Store c.each_of_all.new.conn) (Err e)) h.0 (c.in-Err.ensures.left clean ready))
+
+pub returns-in-Ok-clause-own : goal.returns-in-Ok-clause-own
+returns-in-Ok-clause-own g c clean ready first acts history held told =
+    let old = state g.S.Store c.args.conn.now in
+    let start : CardDay = record { lot = c.args.lot; act = c.args.act; day = None } in
+    absurd (line_there first acts history old ready held start c.each_of_all.new.sink told (c.in-Ok.ensures.handed clean ready held.typed))
+
+pub returns-in-Err-clause-own : goal.returns-in-Err-clause-own
+returns-in-Err-clause-own g c clean ready first acts history held told =
+    let old = state g.S.Store c.args.conn.now in
+    let start : CardDay = record { lot = c.args.lot; act = c.args.act; day = None } in
+    IfErr-weaker c.day_at.result _ _ (λ fault h is. own_fault first acts history old ready held start c.each_of_all.new.sink c.in-Err.cause h.1 (c.in-Err.ensures.handed clean ready held.typed) (sym h.0 ∙ is)) c.day_at.ensures.fault

@@ -1,14 +1,6 @@
-use Rattle.std.proofs.Common.{refl, subst, ◌∙◌, Ok, Err, None}
-use Rattle.std.proofs.lemmas.Result.{IfOk-weaker}
-use Rattle.sqlite.specs.Held.{state}
-use Rattle.table_words.proofs.CallLemmas.{on_ok_if}
-use Rattle.each_row.specs.declared.fault.EachFault.{EachFault}
-use Rattle.each_row.specs.Handed.{HandsOver, IsLeft}
-use Rattle.histories.specs.Start.{Passes, Finds}
-use Rattle.histories.specs.declared.first_start.FirstStart.{FirstStart}
-use Rattle.histories.specs.declared.fault.HistoryFault.TheVariants.{Foreign}
+use Rattle.histories.proofs.Words.{refl, sym, subst, ◌∙◌, Ok, Err, None, IfOk-weaker, IfErr-weaker, state, on_ok_if, EachFault, HandsOver, IsLeft, IsOfRows, Passes, Finds, FirstStart, Foreign}
 use Rattle.histories.proofs.Begun.{none_tells, one_tells}
-use Rattle.histories.proofs.Kept.{rows, found, mine, stays}
+use Rattle.histories.proofs.Kept.{rows, found, mine, start_told, stays}
 use Rattle.histories.proofs.start.find_start.Goals as goal
 
 pub returns-in-Ok-clause-found : goal.returns-in-Ok-clause-found
@@ -37,3 +29,10 @@ returns-in-Ok-clause-same g c clean ready = c.in-Ok.ensures.left clean ready
 pub returns-in-Err-clause-same : goal.returns-in-Err-clause-same
 returns-in-Err-clause-same g c clean ready =
     on_ok_if c.found_at.result _ c.found_at.ensures.found (λ d h. subst (λ (e : EachFault). IsLeft (state g.S.Store c.args.conn.now) (state g.S.Store c.each_of_all.new.conn) (Err e)) h.0 (c.in-Err.ensures.left clean ready))
+
+pub returns-in-Err-clause-foreign : goal.returns-in-Err-clause-foreign
+returns-in-Err-clause-foreign g c clean ready first acts history held =
+    let old = state g.S.Store c.args.conn.now in
+    let start : FirstStart = record { alloc = c.args.alloc; done = 0; found = None; fault = Foreign } in
+    IfErr-weaker c.found_at.result _ _
+    (λ fault h. subst (IsOfRows old.now.trees) (sym h.0) (start_told first acts history old ready held start c.each_of_all.new.sink refl c.in-Err.cause h.1 (c.in-Err.ensures.handed clean ready held.typed))) c.found_at.ensures.fault

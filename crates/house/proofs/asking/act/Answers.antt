@@ -1,9 +1,4 @@
-use Rattle.std.proofs.Common.{◌≡◌, ◌≢◌, true, sym, subst, rules}
-use Rattle.std.specs.Prelude.{◌⊎◌, codes}
-use Rattle.sqlite.specs.Held.{state}
-use Rattle.machine.specs.Once.{IsSoundRequest}
-use Rattle.house.specs.Answers.{is_served, act_answer, acts_with, status_of}
-use Rattle.house.specs.Asking.{act_of, IsDone, IsUndone}
+use Rattle.house.proofs.Words.{◌≡◌, ◌≢◌, true, sym, subst, rules, ◌⊎◌, codes, state, IsSoundRequest, is_served, act_answer, acts_with, status_of, act_of, IsDone, IsUndone}
 use Rattle.house.proofs.Acting.{acted}
 use Rattle.house.proofs.Unanswered.{act_unanswered}
 use Rattle.house.proofs.asking.act.Goals as goal

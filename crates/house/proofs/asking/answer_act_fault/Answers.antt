@@ -1,6 +1,4 @@
-use Rattle.std.proofs.Common.{Err, ap, sym, ◌∙◌}
-use Rattle.store.specs.declared.fault.Fault.{Fault}
-use Rattle.house.specs.Asking.{told_answer}
+use Rattle.house.proofs.Words.{Err, ap, sym, ◌∙◌, Fault, told_answer}
 use Rattle.house.proofs.asking.answer_act_fault.Goals as goal
 
 pub returns-in-Refused : goal.returns-in-Refused

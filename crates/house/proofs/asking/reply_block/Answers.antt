@@ -1,5 +1,4 @@
-use Rattle.std.proofs.Common.{ap, sym, ◌∙◌}
-use Rattle.house.specs.Asking.{told_answer}
+use Rattle.house.proofs.Words.{ap, sym, ◌∙◌, told_answer}
 use Rattle.house.proofs.asking.reply_block.Goals as goal
 
 pub returns-in-Ok : goal.returns-in-Ok

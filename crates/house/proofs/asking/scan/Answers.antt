@@ -1,9 +1,5 @@
-use Rattle.std.proofs.Common.{◌∙◌}
-use Rattle.std.specs.Prelude.{Ok, Err}
-use Rattle.house.specs.Asking.{delivered}
+use Rattle.house.proofs.Words.{◌∙◌, Ok, Err, delivered, state, as_before_itself}
 use Rattle.house.proofs.Acting.{scanned, tells}
-use Rattle.sqlite.specs.Held.{state}
-use Rattle.store.proofs.AsBefore.{as_before_itself}
 use Rattle.house.proofs.asking.scan.Goals as goal
 
 pub returns-in-Ok-clause-acted : goal.returns-in-Ok-clause-acted

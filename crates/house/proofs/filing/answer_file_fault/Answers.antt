@@ -1,5 +1,4 @@
-use Rattle.std.proofs.Common.{ap, sym, ◌∙◌}
-use Rattle.house.specs.Answers.{cause_answer, cause_row_answer, file_fault_answer}
+use Rattle.house.proofs.Words.{ap, sym, ◌∙◌, cause_answer, cause_row_answer, file_fault_answer}
 use Rattle.house.proofs.FileTold.{told_without_memory, told_by_cause}
 use Rattle.house.proofs.filing.answer_file_fault.Goals as goal
 

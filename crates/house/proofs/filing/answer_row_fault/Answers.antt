@@ -1,6 +1,4 @@
-use Rattle.std.proofs.Common.{Err, ap, sym, ◌∙◌}
-use Rattle.store.specs.declared.tally.RowFault.{RowFault}
-use Rattle.house.specs.Asking.{told_file_answer}
+use Rattle.house.proofs.Words.{Err, ap, sym, ◌∙◌, RowFault, told_file_answer}
 use Rattle.house.proofs.filing.answer_row_fault.Goals as goal
 
 pub returns-in-Refused : goal.returns-in-Refused

@@ -1,12 +1,5 @@
-use Rattle.std.proofs.Common.{◌≡◌, ◌≢◌, ◌∙◌, ap, sym, subst}
-use Rattle.std.specs.Prelude.{Ok, All, codes}
-use Rattle.goodsin.specs.Rows.{IsReceipt}
-use Rattle.machine.specs.Standing.{today}
-use Rattle.goodsin.specs.Files.{file_read}
+use Rattle.house.proofs.Words.{◌≡◌, ◌≢◌, ◌∙◌, ap, sym, subst, Ok, All, codes, IsReceipt, today, file_read, state, as_before_itself, status_of}
 use Rattle.house.proofs.FileTold.{read_today, not_taken, taken_in, receipts_have_keys}
-use Rattle.sqlite.specs.Held.{state}
-use Rattle.store.proofs.AsBefore.{as_before_itself}
-use Rattle.house.specs.Answers.{status_of}
 use Rattle.house.proofs.Unanswered.{file_unanswered}
 use Rattle.house.proofs.filing.take_in.Goals as goal
 

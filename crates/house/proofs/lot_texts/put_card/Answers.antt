@@ -1,11 +1,4 @@
-use Rattle.std.proofs.Common.{subst, Ok, Err}
-use Rattle.std.specs.Prelude.{flat_map}
-use Rattle.commands.specs.Cards.{rest_after}
-use Rattle.machine.specs.Views.{card_of_lot}
-use Rattle.texts.specs.Card.{card_line, card_end}
-use Rattle.texts.specs.Sinks.{AddsCardLine, CutsCardLine}
-use Rattle.texts.specs.Writing.{Writes}
-use Rattle.texts.proofs.Lined.{card_lined}
+use Rattle.house.proofs.Words.{subst, Ok, Err, flat_map, rest_after, card_of_lot, card_line, card_end, AddsCardLine, CutsCardLine, Writes, card_lined}
 use Rattle.house.proofs.LotWriting.{put_part, put_whole, lines_put}
 use Rattle.house.proofs.lot_texts.put_card.Goals as goal
 

@@ -1,7 +1,4 @@
-use Rattle.std.proofs.Common.{refl}
-use Rattle.machine.specs.Queries.{card_shown}
-use Rattle.texts.specs.Card.{card_text, card_start}
-use Rattle.house.specs.LotTexts.{card_from}
+use Rattle.house.proofs.Words.{refl, card_shown, card_text, card_start, card_from}
 use Rattle.house.proofs.LotWriting.{stays_shown, told_whole, told_cut, card_with_head, card_whole}
 use Rattle.house.proofs.lot_texts.write_card.Goals as goal
 

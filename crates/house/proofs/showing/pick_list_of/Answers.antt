@@ -1,6 +1,4 @@
-use Rattle.std.proofs.Common.{◌++◌, ap, ◌∙◌}
-use Rattle.wire.specs.declared.answer.Answer.TheVariants.{Text}
-use Rattle.texts.specs.PickList.{pick_list_text}
+use Rattle.house.proofs.Words.{◌++◌, ap, ◌∙◌, Text, pick_list_text}
 use Rattle.house.proofs.ShownTold.{text_written}
 use Rattle.house.proofs.showing.pick_list_of.Goals as goal
 

@@ -1,6 +1,4 @@
-use Rattle.std.proofs.Common.{◌++◌, ap, ◌∙◌}
-use Rattle.wire.specs.declared.answer.Answer.TheVariants.{Text}
-use Rattle.texts.specs.Shortages.{shortages_text}
+use Rattle.house.proofs.Words.{◌++◌, ap, ◌∙◌, Text, shortages_text}
 use Rattle.house.proofs.ShownTold.{text_written}
 use Rattle.house.proofs.showing.shortages_of.Goals as goal
 

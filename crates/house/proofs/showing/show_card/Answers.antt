@@ -1,10 +1,4 @@
-use Rattle.std.proofs.Common.{◌≡◌, ◌⊎◌, List, ℕ, Some, subst}
-use Rattle.machine.specs.Queries.{card_shown}
-use Rattle.texts.specs.Card.{card_text}
-use Rattle.house.specs.Answers.{no_memory}
-use Rattle.house.specs.Asking.{asked_answer}
-use Rattle.house.specs.House.{bytes_of}
-use Rattle.house.specs.LotTexts.{Tells}
+use Rattle.house.proofs.Words.{◌≡◌, ◌⊎◌, List, ℕ, Some, subst, card_shown, card_text, no_memory, asked_answer, bytes_of, Tells}
 use Rattle.house.proofs.LotShown.{written_told}
 use Rattle.house.proofs.showing.show_card.Goals as goal
 

@@ -1,9 +1,4 @@
-use Rattle.std.proofs.Common.{refl}
-use Rattle.commands.specs.declared.views.OrderView.{OrderView}
-use Rattle.machine.specs.Queries.{order_shown}
-use Rattle.wire.specs.declared.answer.Answer.{Answer}
-use Rattle.wire.specs.declared.answer.Answer.TheVariants.{Text}
-use Rattle.texts.specs.PickList.{pick_list_text}
+use Rattle.house.proofs.Words.{refl, OrderView, order_shown, Answer, Text, pick_list_text}
 use Rattle.house.proofs.ShownTold.{shown_told}
 use Rattle.house.proofs.showing.show_pick_list.Goals as goal
 

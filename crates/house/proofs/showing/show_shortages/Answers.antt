@@ -1,9 +1,4 @@
-use Rattle.std.proofs.Common.{refl}
-use Rattle.commands.specs.declared.views.ShortView.{ShortView}
-use Rattle.machine.specs.Queries.{short_shown}
-use Rattle.wire.specs.declared.answer.Answer.{Answer}
-use Rattle.wire.specs.declared.answer.Answer.TheVariants.{Text}
-use Rattle.texts.specs.Shortages.{shortages_text}
+use Rattle.house.proofs.Words.{refl, ShortView, short_shown, Answer, Text, shortages_text}
 use Rattle.house.proofs.ShownTold.{shown_told}
 use Rattle.house.proofs.showing.show_shortages.Goals as goal
 

@@ -1,8 +1,4 @@
-use Rattle.std.proofs.Common.{sym, subst}
-use Rattle.sqlite.specs.Given.{IsPlain}
-use Rattle.sqlite.specs.Held.{state}
-use Rattle.sqlite.specs.Listing.{understood}
-use Rattle.table_words.proofs.CallLemmas.{on_ok_if, if_ok, if_err}
+use Rattle.keyed_rows.proofs.Words.{sym, subst, IsPlain, state, understood, on_ok_if, if_ok, if_err}
 use Rattle.keyed_rows.proofs.Laws.{reads, typed_are}
 use Rattle.keyed_rows.proofs.reading.seek.Goals as goal
 

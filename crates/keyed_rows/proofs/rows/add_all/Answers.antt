@@ -1,7 +1,4 @@
-use Rattle.std.proofs.Common.{refl, ◌∙◌, arith}
-use Rattle.std.proofs.lemmas.Grind.{common_steps}
-use Rattle.sqlite.specs.Held.{state}
-use Rattle.keyed_rows.specs.Described.{with_row}
+use Rattle.keyed_rows.proofs.Words.{refl, ◌∙◌, arith, common_steps, state, with_row}
 use Rattle.keyed_rows.proofs.Writing.{writes_first, writes_more, writes_failed, writes_all, were_first, were_more}
 use Rattle.keyed_rows.proofs.rows.add_all.Goals as goal
 

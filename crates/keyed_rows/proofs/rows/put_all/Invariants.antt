@@ -1,7 +1,4 @@
-use Rattle.std.proofs.Common.{◌≡◌, take, Ok}
-use Rattle.sqlite.specs.Held.{state}
-use Rattle.keyed_rows.specs.Writes.{Writes, each_written}
-use Rattle.keyed_rows.specs.Described.{with_row}
+use Rattle.keyed_rows.proofs.Words.{◌≡◌, take, Ok, state, Writes, each_written, with_row}
 use Rattle.keyed_rows.proofs.rows.put_all.Given as goal
 
 -- the rows so far were written

@@ -1,7 +1,4 @@
-use Rattle.std.proofs.Common.{Err}
-use Rattle.sqlite.specs.Values.{bound}
-use Rattle.sqlite.specs.Held.{state}
-use Rattle.table_words.proofs.CallLemmas.{was_inside, keeps, refuses}
+use Rattle.keyed_rows.proofs.Words.{Err, bound, state, was_inside, keeps, refuses}
 use Rattle.keyed_rows.proofs.running.count.Goals as goal
 
 pub returns-in-Ok-clause-ran : goal.returns-in-Ok-clause-ran

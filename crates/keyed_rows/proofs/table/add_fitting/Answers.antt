@@ -1,5 +1,4 @@
-use Rattle.sqlite.specs.Held.{state}
-use Rattle.keyed_rows.specs.Described.{with_row}
+use Rattle.keyed_rows.proofs.Words.{state, with_row}
 use Rattle.keyed_rows.proofs.Laws.{adds, were_typed}
 use Rattle.keyed_rows.proofs.Writing.{ran_writes}
 use Rattle.keyed_rows.proofs.table.add_fitting.Goals as goal

@@ -1,6 +1,4 @@
-use Rattle.std.proofs.Common.{ap, sym}
-use Rattle.keyed_rows.specs.Writes.{if_done}
-use Rattle.keyed_rows.specs.Described.{with_row}
+use Rattle.keyed_rows.proofs.Words.{ap, sym, if_done, with_row}
 use Rattle.keyed_rows.proofs.Writing.{writes_after}
 use Rattle.keyed_rows.proofs.table.add_or_change.Goals as goal
 

@@ -1,7 +1,4 @@
-use Rattle.std.proofs.Common.{true, false}
-use Rattle.sqlite.specs.Held.{state}
-use Rattle.keyed_rows.specs.Writes.{if_done}
-use Rattle.keyed_rows.specs.Described.{with_row}
+use Rattle.keyed_rows.proofs.Words.{true, false, state, if_done, with_row}
 use Rattle.keyed_rows.proofs.Laws.{changes}
 use Rattle.keyed_rows.proofs.Writing.{ran_writes}
 use Rattle.keyed_rows.proofs.table.change.Goals as goal

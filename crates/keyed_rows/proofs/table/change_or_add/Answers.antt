@@ -1,7 +1,4 @@
-use Rattle.std.proofs.Common.{ap}
-use Rattle.sqlite.specs.Held.{state}
-use Rattle.keyed_rows.specs.Writes.{if_done}
-use Rattle.keyed_rows.specs.Described.{with_row}
+use Rattle.keyed_rows.proofs.Words.{ap, state, if_done, with_row}
 use Rattle.keyed_rows.proofs.Writing.{tells}
 use Rattle.keyed_rows.proofs.table.change_or_add.Goals as goal
 

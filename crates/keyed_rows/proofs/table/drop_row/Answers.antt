@@ -1,5 +1,4 @@
-use Rattle.sqlite.specs.Held.{state}
-use Rattle.keyed_rows.specs.Described.{without_row}
+use Rattle.keyed_rows.proofs.Words.{state, without_row}
 use Rattle.keyed_rows.proofs.Laws.{drops}
 use Rattle.keyed_rows.proofs.Writing.{ran_writes}
 use Rattle.keyed_rows.proofs.table.drop_row.Goals as goal

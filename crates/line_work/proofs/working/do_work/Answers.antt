@@ -1,10 +1,5 @@
-use Rattle.std.proofs.Common.{◌≡◌, false, sym, subst}
-use Rattle.std.specs.Prelude.{IfOk, IfErr}
-use Rattle.std.proofs.lemmas.Result.{IfOk-weaker}
-use Rattle.sqlite.specs.Held.{state}
-use Rattle.sqlite.specs.State.{HasCleanDisk}
-use Rattle.line_work.specs.Works.{IsWorked, IsTold, IsKeptBeside, IsJudged, IsNotBegun, is_logged}
-use Rattle.kept_lines.proofs.Losing.{left_alone}
+use Rattle.line_work.proofs.Words.{◌≡◌, false, sym, subst, IfOk, IfErr, IfOk-weaker, state, HasCleanDisk, IsWorked, IsTold, IsKeptBeside, IsJudged, IsNotBegun, is_logged}
+use Rattle.line_work.proofs.Losing.{left_alone}
 use Rattle.line_work.proofs.working.do_work.Goals as goal
 
 pub returns-in-Make-clause-judged : goal.returns-in-Make-clause-judged

@@ -1,9 +1,4 @@
-use Rattle.std.proofs.Common.{◌≡◌, ap, ◌∙◌}
-use Rattle.std.specs.Prelude.{slice_get}
-use Rattle.table_words.specs.Typed.{BinKey, same_bin, bin_key}
-use Rattle.table_words.proofs.KeyLemmas.{first_row, itself_bytes}
-use Rattle.known_reads.proofs.ReadSteps.{fails_first}
-use Rattle.known_reads.proofs.KnowingSteps.{known_told}
+use Rattle.queries.proofs.Words.{◌≡◌, ap, ◌∙◌, slice_get, BinKey, same_bin, bin_key, first_row, itself_bytes, fails_first, known_told}
 use Rattle.queries.proofs.reading.bin_row.Goals as goal
 
 pub returns-in_err-found-clause-read : goal.returns-in_err-found-clause-read

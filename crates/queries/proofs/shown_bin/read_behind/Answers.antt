@@ -1,5 +1,4 @@
-use Rattle.known_reads.proofs.ReadSteps.{has_read, fails_first, fails_later}
-use Rattle.known_reads.proofs.KnowingSteps.{and_known, known_told}
+use Rattle.queries.proofs.Words.{has_read, fails_first, fails_later, and_known, known_told}
 use Rattle.queries.proofs.BinRight.{from_first, from_lot, no_lot}
 use Rattle.queries.proofs.shown_bin.read_behind.Goals as goal
 

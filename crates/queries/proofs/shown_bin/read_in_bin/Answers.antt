@@ -1,11 +1,4 @@
-use Rattle.std.proofs.Common.{◌≡◌, List, ap, subst}
-use Rattle.values.specs.declared.lot.LotId.{LotId}
-use Rattle.commands.specs.Tables.{Tables}
-use Rattle.slices.specs.ByLot.{AreLotsOf}
-use Rattle.slices.specs.Remembering.{KnowsRows}
-use Rattle.known_reads.proofs.ReadSteps.{has_read, fails_first, fails_later}
-use Rattle.known_reads.proofs.KnowingSteps.{unasked, and_known, known_told}
-use Rattle.queries.specs.ShownBin.{lots_of_stock}
+use Rattle.queries.proofs.Words.{◌≡◌, List, ap, subst, LotId, Tables, AreLotsOf, KnowsRows, has_read, fails_first, fails_later, unasked, and_known, known_told, lots_of_stock}
 use Rattle.queries.proofs.shown_bin.read_in_bin.Goals as goal
 
 pub returns-in_err-stock-clause-read : goal.returns-in_err-stock-clause-read

@@ -1,13 +1,4 @@
-use Rattle.std.proofs.Common.{◌≡◌, List, refl, ap, subst, ◌∙◌}
-use Rattle.commands.specs.declared.rows.LotRow.{LotRow}
-use Rattle.sqlite.specs.declared.error.Error.TheVariants.{SqliteFailure}
-use Rattle.sqlite.specs.declared.error.ErrorCode.TheVariants.{OutOfMemory}
-use Rattle.overviews.specs.Pages.{page}
-use Rattle.slices.specs.Slicing.{items_of_lots}
-use Rattle.views.specs.GivenBin.{bin_and_more}
-use Rattle.known_reads.proofs.ReadSteps.{has_read, read_on, fails_first, fails_later, no_room_left}
-use Rattle.known_reads.proofs.KnowingSteps.{and_known, known_told}
-use Rattle.queries.specs.ShownBin.{AreOfGoods}
+use Rattle.queries.proofs.Words.{◌≡◌, List, refl, ap, subst, ◌∙◌, LotRow, SqliteFailure, OutOfMemory, page, items_of_lots, bin_and_more, has_read, read_on, fails_first, fails_later, no_room_left, and_known, known_told, AreOfGoods}
 use Rattle.queries.proofs.shown_bin.read_listed.Goals as goal
 
 pub returns-in_err-found-clause-read : goal.returns-in_err-found-clause-read

@@ -1,11 +1,4 @@
-use Rattle.std.proofs.Common.{◌≡◌, List, subst, ◌∙◌}
-use Rattle.values.specs.declared.lot.LotId.{LotId}
-use Rattle.sqlite.specs.declared.error.Error.TheVariants.{SqliteFailure}
-use Rattle.sqlite.specs.declared.error.ErrorCode.TheVariants.{OutOfMemory}
-use Rattle.slices.specs.ByLot.{AreLotsOf}
-use Rattle.known_reads.proofs.ReadSteps.{no_room_yet}
-use Rattle.known_reads.proofs.KnowingSteps.{known_as}
-use Rattle.queries.specs.ShownBin.{lots_of_stock}
+use Rattle.queries.proofs.Words.{◌≡◌, List, subst, ◌∙◌, LotId, SqliteFailure, OutOfMemory, AreLotsOf, no_room_yet, known_as, lots_of_stock}
 use Rattle.queries.proofs.shown_bin.read_lots_of.Goals as goal
 
 pub returns-in_err-lots-clause-read : goal.returns-in_err-lots-clause-read

@@ -1,8 +1,4 @@
-use Rattle.std.proofs.Common.{◌≡◌, [], ap, ◌∙◌}
-use Rattle.commands.specs.declared.rows.StagedRow.{StagedRow}
-use Rattle.commands.specs.declared.rows.StockRow.{StockRow}
-use Rattle.machine.specs.Postings.{is_lot}
-use Rattle.slice_lists.specs.Keys.{with_keys}
+use Rattle.queries.proofs.Words.{◌≡◌, [], ap, ◌∙◌, StagedRow, StockRow, is_lot, with_keys}
 use Rattle.queries.proofs.shown_expiring.lots_in_house.Goals as goal
 
 pub returns : goal.returns

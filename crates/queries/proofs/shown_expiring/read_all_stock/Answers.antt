@@ -1,8 +1,4 @@
-use Rattle.std.proofs.Common.{◌≡◌, true}
-use Rattle.sqlite.specs.Held.{state}
-use Rattle.keyed_rows.proofs.Laws.{typed_rows}
-use Rattle.goods_tables.specs.Stock.{stock, stock_laws}
-use Rattle.known_reads.proofs.ReadSteps.{read_of, never_foreign}
+use Rattle.queries.proofs.Words.{◌≡◌, true, state, typed_rows, stock, stock_laws, read_of, never_foreign}
 use Rattle.queries.proofs.shown_expiring.read_all_stock.Goals as goal
 
 pub returns-clause-read : goal.returns-clause-read

@@ -1,11 +1,4 @@
-use Rattle.std.proofs.Common.{subst, List, ◌≡◌}
-use Rattle.values.specs.declared.lot.LotId.{LotId}
-use Rattle.commands.specs.Tables.{Tables}
-use Rattle.slices.specs.ByLot.{AreLotsOf}
-use Rattle.slices.specs.Remembering.{KnowsRows}
-use Rattle.known_reads.proofs.ReadSteps.{has_read, read_on, fails_first, fails_later}
-use Rattle.known_reads.proofs.KnowingSteps.{unasked, and_known, known_told}
-use Rattle.queries.specs.ShownExpiring.{lots_in_house}
+use Rattle.queries.proofs.Words.{subst, List, ◌≡◌, LotId, Tables, AreLotsOf, KnowsRows, has_read, read_on, fails_first, fails_later, unasked, and_known, known_told, lots_in_house}
 use Rattle.queries.proofs.shown_expiring.read_house.Goals as goal
 
 pub returns-in_err-stock-clause-read : goal.returns-in_err-stock-clause-read

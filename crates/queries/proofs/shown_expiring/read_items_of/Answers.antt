@@ -1,14 +1,5 @@
-use Rattle.std.proofs.Common.{◌≡◌, ℕ, List, subst, ◌∙◌}
-use Rattle.values.specs.Values.{same_text}
-use Rattle.commands.specs.Tables.{Tables}
-use Rattle.sqlite.specs.declared.error.Error.TheVariants.{SqliteFailure}
-use Rattle.sqlite.specs.declared.error.ErrorCode.TheVariants.{OutOfMemory}
+use Rattle.queries.proofs.Words.{◌≡◌, ℕ, List, subst, ◌∙◌, same_text, Tables, SqliteFailure, OutOfMemory, ItemKey, same_item, item_key, RecallKey, same_recall, recall_key, ReservedKey, same_reserved, reserved_key, KnowsRows, Each, AreLeast, items_of_lots, has_read, read_on, fails_first, fails_later, no_room_yet, unasked, and_known, known_told}
 use Rattle.table_words.specs.Found.{AreRows}
-use Rattle.table_words.specs.Typed.{ItemKey, same_item, item_key, RecallKey, same_recall, recall_key, ReservedKey, same_reserved, reserved_key}
-use Rattle.slices.specs.Remembering.{KnowsRows}
-use Rattle.slices.specs.Slicing.{Each, AreLeast, items_of_lots}
-use Rattle.known_reads.proofs.ReadSteps.{has_read, read_on, fails_first, fails_later, no_room_yet}
-use Rattle.known_reads.proofs.KnowingSteps.{unasked, and_known, known_told}
 use Rattle.queries.proofs.shown_expiring.read_items_of.Goals as goal
 
 pub returns-in_err-gtins-clause-read : goal.returns-in_err-gtins-clause-read

@@ -1,10 +1,4 @@
-use Rattle.std.proofs.Common.{◌≡◌, ℕ, List, subst, ◌∙◌}
-use Rattle.sqlite.specs.declared.error.Error.TheVariants.{SqliteFailure}
-use Rattle.sqlite.specs.declared.error.ErrorCode.TheVariants.{OutOfMemory}
-use Rattle.slices.specs.Slicing.{AreLeast}
-use Rattle.known_reads.proofs.ReadSteps.{no_room_yet}
-use Rattle.known_reads.proofs.KnowingSteps.{known_as}
-use Rattle.queries.specs.ShownNames.{gtins_of}
+use Rattle.queries.proofs.Words.{◌≡◌, ℕ, List, subst, ◌∙◌, SqliteFailure, OutOfMemory, AreLeast, no_room_yet, known_as, gtins_of}
 use Rattle.queries.proofs.shown_names.read_asked.Goals as goal
 
 pub returns-in_err-gtins-clause-read : goal.returns-in_err-gtins-clause-read

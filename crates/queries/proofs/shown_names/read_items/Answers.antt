@@ -1,8 +1,4 @@
-use Rattle.std.proofs.Common.{ap, ◌∙◌}
-use Rattle.sqlite.specs.declared.error.Error.TheVariants.{SqliteFailure}
-use Rattle.sqlite.specs.declared.error.ErrorCode.TheVariants.{OutOfMemory}
-use Rattle.views.specs.GivenNames.{items_and_more}
-use Rattle.known_reads.proofs.ReadSteps.{has_read, fails_first, no_room_left, so_told}
+use Rattle.queries.proofs.Words.{ap, ◌∙◌, SqliteFailure, OutOfMemory, items_and_more, has_read, fails_first, no_room_left, so_told}
 use Rattle.queries.proofs.shown_names.read_items.Goals as goal
 
 pub returns-in_err-items-clause-read : goal.returns-in_err-items-clause-read

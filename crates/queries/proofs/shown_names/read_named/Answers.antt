@@ -1,13 +1,4 @@
-use Rattle.std.proofs.Common.{◌≡◌, List, ap, subst, ◌∙◌}
-use Rattle.std.specs.Prelude.{take}
-use Rattle.commands.specs.Tables.{Tables}
-use Rattle.commands.specs.declared.rows.ItemRow.{ItemRow}
-use Rattle.overviews.specs.declared.lists.TheConstants.{NAMES_MAX}
-use Rattle.slices.specs.Remembering.{KnowsRows}
-use Rattle.slices.specs.Slicing.{AreLeast}
-use Rattle.queries.specs.ShownNames.{gtins_of}
-use Rattle.known_reads.proofs.ReadSteps.{has_read, read_on, fails_first, fails_later}
-use Rattle.known_reads.proofs.KnowingSteps.{unasked, and_known, known_told}
+use Rattle.queries.proofs.Words.{◌≡◌, List, ap, subst, ◌∙◌, take, Tables, ItemRow, NAMES_MAX, KnowsRows, AreLeast, gtins_of, has_read, read_on, fails_first, fails_later, unasked, and_known, known_told}
 use Rattle.queries.proofs.shown_names.read_named.Goals as goal
 
 pub returns-in_err-page-clause-read : goal.returns-in_err-page-clause-read

@@ -1,6 +1,4 @@
-use Rattle.std.proofs.Common.{◌≡◌, rules}
-use Rattle.commands.specs.Spelling.{key_text, spelling}
-use Rattle.machine.specs.Acts.{Act}
+use Rattle.replays.proofs.Words.{◌≡◌, rules, key_text, spelling, Act}
 use Rattle.replays.proofs.RowSteps.{row_replayed}
 use Rattle.replays.proofs.rows.replay_row.Goals as goal
 

@@ -1,7 +1,4 @@
-use Rattle.std.proofs.Common.{◌≡◌, [], ◌∷◌, ◌++◌, ◌-◌, take, append_assoc, arith, sym, ap, subst, ◌∙◌}
-use Rattle.std.specs.Prelude.{Ok, Err}
-use Rattle.std.proofs.lemmas.List.{append-nil}
-use Rattle.replays.specs.Replaying.{AreRowsReplayed}
+use Rattle.replays.proofs.Words.{◌≡◌, [], ◌∷◌, ◌++◌, ◌-◌, take, append_assoc, arith, sym, ap, subst, ◌∙◌, Ok, Err, append-nil, AreRowsReplayed}
 use Rattle.replays.proofs.RowSteps.{ends_rows}
 use Rattle.replays.proofs.rows.replay_rows.Goals as goal
 

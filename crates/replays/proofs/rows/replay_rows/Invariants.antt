@@ -1,9 +1,4 @@
-use Rattle.std.proofs.Common.{◌≡◌, ◌++◌, [], List, vec_len}
-use Rattle.std.specs.Prelude.{ℤ, Ok}
-use Rattle.commands.specs.declared.rows.RepeatRow.{RepeatRow}
-use Rattle.machine.specs.Once.{IsHistory}
-use Rattle.store.specs.Books.{HoldsBooks, IsClean}
-use Rattle.replays.specs.Replaying.{IsOpen, AreRowsReplayed}
+use Rattle.replays.proofs.Words.{◌≡◌, ◌++◌, [], List, vec_len, ℤ, Ok, RepeatRow, IsHistory, HoldsBooks, IsClean, IsOpen, AreRowsReplayed}
 use Rattle.replays.proofs.rows.replay_rows.Given as goal
 
 -- the rows are those that are left with those that are done behind them

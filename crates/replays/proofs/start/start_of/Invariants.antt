@@ -1,5 +1,4 @@
-use Rattle.std.proofs.Common.{take}
-use Rattle.replays.specs.Starting.{TellNothing}
+use Rattle.replays.proofs.Words.{take, TellNothing}
 use Rattle.replays.proofs.Starting.{TellNone}
 use Rattle.replays.proofs.start.start_of.Given as goal
 

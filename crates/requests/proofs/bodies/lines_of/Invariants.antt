@@ -1,6 +1,4 @@
-use Rattle.std.proofs.Common.{◌≡◌, drop}
-use Rattle.serde_json.specs.View.{items_view}
-use Rattle.requests.specs.Bodies.{lines_of}
+use Rattle.requests.proofs.Words.{◌≡◌, drop, items_view, lines_of}
 use Rattle.requests.proofs.Lines.{with_found}
 use Rattle.requests.proofs.bodies.lines_of.Given as goal
 

@@ -1,5 +1,4 @@
-use Rattle.std.proofs.Common.{rules}
-use Rattle.serde_json.proofs.Views.{members_len-members_view}
+use Rattle.requests.proofs.Words.{rules, members_len-members_view}
 use Rattle.requests.proofs.fields.is_object_of.Goals as goal
 
 pub returns-in-Some : goal.returns-in-Some

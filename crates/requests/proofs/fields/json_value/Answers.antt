@@ -1,6 +1,4 @@
-use Rattle.std.proofs.Common.{rules}
-use Rattle.serde_json.specs.Errors.{IsMemory}
-use Rattle.serde_json.specs.View.{view}
+use Rattle.requests.proofs.Words.{rules, IsMemory, view}
 use Rattle.requests.proofs.Json.{json_none, json_some}
 use Rattle.requests.proofs.fields.json_value.Goals as goal
 

@@ -1,8 +1,4 @@
-use Rattle.std.proofs.Common.{◌≡◌, ◌+◌, ◌≤◌, drop, map, length}
-use Rattle.std.specs.List.{count_by}
-use Rattle.std.specs.Prelude.{All}
-use Rattle.httparse.specs.Spans.{header_bytes, IsHeaderWithin}
-use Rattle.requests.specs.Head.{is_named}
+use Rattle.requests.proofs.Words.{◌≡◌, ◌+◌, ◌≤◌, drop, map, length, count_by, All, header_bytes, IsHeaderWithin, is_named}
 use Rattle.requests.proofs.head.count_fields.Given as goal
 
 abbrev pub invariant-loop-header : goal.invariant-loop-header

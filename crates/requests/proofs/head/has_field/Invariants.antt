@@ -1,8 +1,4 @@
-use Rattle.std.proofs.Common.{◌≡◌, drop, map, length}
-use Rattle.std.specs.List.{list_any}
-use Rattle.std.specs.Prelude.{All}
-use Rattle.httparse.specs.Spans.{header_bytes, IsHeaderWithin}
-use Rattle.requests.specs.Head.{is_named}
+use Rattle.requests.proofs.Words.{◌≡◌, drop, map, length, list_any, All, header_bytes, IsHeaderWithin, is_named}
 use Rattle.requests.proofs.head.has_field.Given as goal
 
 abbrev pub invariant-loop-header : goal.invariant-loop-header

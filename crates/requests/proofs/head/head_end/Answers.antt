@@ -1,6 +1,4 @@
-use Rattle.std.proofs.Common.{sym, ◌∙◌, ap, take}
-use Rattle.std.specs.Str.{bytes_eq}
-use Rattle.requests.specs.Head.{BLANK_LINE}
+use Rattle.requests.proofs.Words.{sym, ◌∙◌, ap, take, bytes_eq, BLANK_LINE}
 use Rattle.requests.proofs.HeadEnds.{head_end_here, head_end_later}
 use Rattle.requests.proofs.head.head_end.Goals as goal
 

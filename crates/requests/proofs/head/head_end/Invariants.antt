@@ -1,5 +1,4 @@
-use Rattle.std.proofs.Common.{◌≡◌, ◌+◌, drop, option_map}
-use Rattle.requests.specs.Head.{head_end}
+use Rattle.requests.proofs.Words.{◌≡◌, ◌+◌, drop, option_map, head_end}
 use Rattle.requests.proofs.head.head_end.Given as goal
 
 abbrev pub invariant-loop-i : goal.invariant-loop-i

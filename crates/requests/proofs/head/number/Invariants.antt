@@ -1,5 +1,4 @@
-use Rattle.std.proofs.Common.{◌≡◌, ◌+◌, ◌*◌, ◌^◌, ◌≤◌, drop, length}
-use Rattle.requests.specs.Head.{number_from}
+use Rattle.requests.proofs.Words.{◌≡◌, ◌+◌, ◌*◌, ◌^◌, ◌≤◌, drop, length, number_from}
 use Rattle.requests.proofs.head.number.Given as goal
 
 abbrev pub invariant-loop-c : goal.invariant-loop-c

@@ -1,5 +1,4 @@
-use Rattle.std.proofs.Common.{◌≡◌, drop}
-use Rattle.requests.specs.Requests.{after_slash}
+use Rattle.requests.proofs.Words.{◌≡◌, drop, after_slash}
 use Rattle.requests.proofs.request.after_slash.Given as goal
 
 abbrev pub invariant-loop-i : goal.invariant-loop-i

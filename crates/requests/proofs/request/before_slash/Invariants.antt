@@ -1,5 +1,4 @@
-use Rattle.std.proofs.Common.{◌≡◌, ◌++◌, take, drop}
-use Rattle.requests.specs.Requests.{before_slash}
+use Rattle.requests.proofs.Words.{◌≡◌, ◌++◌, take, drop, before_slash}
 use Rattle.requests.proofs.request.before_slash.Given as goal
 
 abbrev pub invariant-loop-i : goal.invariant-loop-i

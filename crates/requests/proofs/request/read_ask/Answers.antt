@@ -1,9 +1,4 @@
-use Rattle.std.proofs.Common.{◌≡◌, ◌∙◌, ap, sym, true}
-use Rattle.std.specs.Str.{bytes_eq}
-use Rattle.std.proofs.lemmas.Bool.{not-false}
-use Rattle.std.proofs.lemmas.Result.{IfOk-weaker, IfErr-weaker}
-use Rattle.requests.specs.Routes.{method_name}
-use Rattle.requests.specs.Requests.{read_ask, read_route}
+use Rattle.requests.proofs.Words.{◌≡◌, ◌∙◌, ap, sym, true, bytes_eq, not-false, IfOk-weaker, IfErr-weaker, method_name, read_ask, read_route}
 use Rattle.requests.proofs.Asked.{with_route}
 use Rattle.requests.proofs.request.read_ask.Goals as goal
 

@@ -1,6 +1,4 @@
-use Rattle.std.proofs.Common.{◌∙◌, ap, sym, Some, None, Err}
-use Rattle.std.proofs.lemmas.Result.{IfOk-weaker, IfErr-weaker}
-use Rattle.serde_json.specs.View.{view}
+use Rattle.requests.proofs.Words.{◌∙◌, ap, sym, Some, None, Err, IfOk-weaker, IfErr-weaker, view}
 use Rattle.requests.proofs.Asked.{with_json}
 use Rattle.requests.proofs.request.read_post.Goals as goal
 

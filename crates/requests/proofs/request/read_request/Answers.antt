@@ -1,5 +1,4 @@
-use Rattle.std.proofs.Common.{◌≡◌, take, None, Some, rules}
-use Rattle.requests.specs.Head.{HEAD_MAX, head_end}
+use Rattle.requests.proofs.Words.{◌≡◌, take, None, Some, rules, HEAD_MAX, head_end}
 use Rattle.requests.proofs.Readings.{too_long, too_short, no_end, some_end, whole_head, no_head}
 use Rattle.requests.proofs.request.read_request.Goals as goal
 

@@ -1,5 +1,4 @@
-use Rattle.std.proofs.Common.{◌≡◌, drop}
-use Rattle.requests.specs.Routes.{add_all, listed}
+use Rattle.requests.proofs.Words.{◌≡◌, drop, add_all, listed}
 use Rattle.requests.proofs.routes.add_routes.Given as goal
 
 abbrev pub invariant-loop-route : goal.invariant-loop-route

@@ -1,6 +1,5 @@
-use Rattle.std.proofs.Common.{rules}
+use Rattle.requests.proofs.Words.{rules, table}
 use Rattle.matchit.proofs.OnLiterals.{matchit_on_literals}
-use Rattle.requests.specs.Routes.{table}
 use Rattle.requests.proofs.routes.add_served.Goals as goal
 
 pub returns : goal.returns

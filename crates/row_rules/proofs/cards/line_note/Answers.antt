@@ -1,6 +1,4 @@
-use Rattle.std.proofs.Common.{rules, arith, ◌≡◌, ◌++◌, ◌∷◌, [], ◌≤◌, length, ap}
-use Rattle.std.specs.Prelude.{decimal}
-use Rattle.commands.proofs.Digits.{line_room}
+use Rattle.row_rules.proofs.Words.{rules, arith, ◌≡◌, ◌++◌, ◌∷◌, [], ◌≤◌, length, ap, decimal, line_room}
 use Rattle.row_rules.proofs.cards.line_note.Goals as goal
 
 pub unwrap-requires : goal.unwrap-requires

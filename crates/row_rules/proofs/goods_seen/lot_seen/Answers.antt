@@ -1,7 +1,4 @@
-use Rattle.std.proofs.Common.{List, ap, ◌∙◌}
-use Rattle.std.specs.Prelude.{find}
-use Rattle.commands.specs.declared.rows.LotRow.{LotRow}
-use Rattle.machine.specs.Postings.{is_lot}
+use Rattle.row_rules.proofs.Words.{List, ap, ◌∙◌, find, LotRow, is_lot}
 use Rattle.row_rules.proofs.goods_seen.lot_seen.Goals as goal
 
 pub returns : goal.returns

@@ -1,7 +1,4 @@
-use Rattle.std.proofs.Common.{List, ap, ◌∙◌}
-use Rattle.std.specs.Prelude.{find, is_some}
-use Rattle.values.specs.Values.{same_text}
-use Rattle.commands.specs.declared.rows.ItemRow.{ItemRow}
+use Rattle.row_rules.proofs.Words.{List, ap, ◌∙◌, find, is_some, same_text, ItemRow}
 use Rattle.row_rules.proofs.goods_seen.sees_item.Goals as goal
 
 pub returns : goal.returns

@@ -1,7 +1,4 @@
-use Rattle.std.specs.Prelude.{◌&&◌}
-use Rattle.values.specs.Values.{same_text}
-use Rattle.commands.specs.declared.rows.OrderRow.{OrderRow}
-use Rattle.machine.specs.Planning.{is_open_state}
+use Rattle.row_rules.proofs.Words.{◌&&◌, same_text, OrderRow, is_open_state}
 use Rattle.row_rules.proofs.Searching.{IsTested}
 use Rattle.row_rules.proofs.open_lines.first_open.Given as goal
 

@@ -1,9 +1,4 @@
-use Rattle.std.proofs.Common.{Bool, ◌&&◌, ap, sym, ◌∙◌}
-use Rattle.std.specs.List.{list_any}
-use Rattle.std.proofs.lemmas.List.{take_rest}
-use Rattle.values.specs.Values.{same_text}
-use Rattle.commands.specs.declared.rows.OrderRow.{OrderRow}
-use Rattle.machine.specs.Planning.{is_open_state}
+use Rattle.row_rules.proofs.Words.{Bool, ◌&&◌, ap, sym, ◌∙◌, list_any, take_rest, same_text, OrderRow, is_open_state}
 use Rattle.row_rules.proofs.Searching.{any_behind, any_before}
 use Rattle.row_rules.proofs.open_lines.open_place.Goals as goal
 

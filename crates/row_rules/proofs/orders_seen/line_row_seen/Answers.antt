@@ -1,7 +1,4 @@
-use Rattle.std.proofs.Common.{List, ◌&&◌, ap, ◌∙◌}
-use Rattle.std.specs.Prelude.{find}
-use Rattle.values.specs.Values.{same_text}
-use Rattle.commands.specs.declared.rows.LineRow.{LineRow}
+use Rattle.row_rules.proofs.Words.{List, ◌&&◌, ap, ◌∙◌, find, same_text, LineRow}
 use Rattle.row_rules.proofs.orders_seen.line_row_seen.Goals as goal
 
 pub returns : goal.returns

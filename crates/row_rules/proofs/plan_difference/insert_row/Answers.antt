@@ -1,7 +1,4 @@
-use Rattle.std.proofs.Common.{◌≡◌, true, cond, subst}
-use Rattle.std.specs.BTreeMap.{is_at}
-use Rattle.std.specs.BTreeSet.{contains}
-use Rattle.row_rules.specs.Apart.{RowKey, row_cmp}
+use Rattle.row_rules.proofs.Words.{◌≡◌, true, cond, subst, is_at, contains, RowKey, row_cmp}
 use Rattle.row_rules.proofs.RowsApart.{row_added}
 use Rattle.row_rules.proofs.plan_difference.insert_row.Goals as goal
 

@@ -1,5 +1,4 @@
-use Rattle.std.proofs.Common.{sym}
-use Rattle.row_rules.specs.Replanning.{same_row}
+use Rattle.row_rules.proofs.Words.{sym, same_row}
 use Rattle.row_rules.proofs.RowsApart.{any_within}
 use Rattle.row_rules.proofs.plan_difference.meets.Goals as goal
 

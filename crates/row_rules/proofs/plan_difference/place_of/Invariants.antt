@@ -1,5 +1,4 @@
-use Rattle.plan.specs.declared.Row.{Row}
-use Rattle.row_rules.specs.Replanning.{same_row}
+use Rattle.row_rules.proofs.Words.{Row, same_row}
 use Rattle.row_rules.proofs.Searching.{IsTested}
 use Rattle.row_rules.proofs.plan_difference.place_of.Given as goal
 

@@ -1,8 +1,4 @@
-use Rattle.std.proofs.Common.{List, ap}
-use Rattle.std.specs.List.{list_any}
-use Rattle.std.specs.BTreeMap.{is_at}
-use Rattle.plan.specs.declared.Row.{Row}
-use Rattle.row_rules.specs.Apart.{RowKey, row_key, row_cmp}
+use Rattle.row_rules.proofs.Words.{List, ap, list_any, is_at, Row, RowKey, row_key, row_cmp}
 use Rattle.row_rules.proofs.RowsApart.{set_more}
 use Rattle.row_rules.proofs.plan_difference.row_set.Goals as goal
 

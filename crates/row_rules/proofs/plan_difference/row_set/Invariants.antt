@@ -1,5 +1,4 @@
-use Rattle.std.proofs.Common.{take}
-use Rattle.row_rules.specs.Apart.{HasRows}
+use Rattle.row_rules.proofs.Words.{take, HasRows}
 use Rattle.row_rules.proofs.plan_difference.row_set.Given as goal
 
 abbrev pub invariant-loop-row : goal.invariant-loop-row

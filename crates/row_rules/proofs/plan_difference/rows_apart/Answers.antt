@@ -1,6 +1,5 @@
-use Rattle.std.proofs.Common.{ap, ◌∙◌}
-use Rattle.row_rules.specs.Replanning.{rows_apart}
-use Rattle.row_rules.proofs.Giving.{same_items}
+use Rattle.row_rules.proofs.Words.{ap, ◌∙◌, rows_apart}
+use Rattle.row_rules.proofs.Making.{same_items}
 use Rattle.row_rules.proofs.plan_difference.rows_apart.Goals as goal
 
 pub returns : goal.returns

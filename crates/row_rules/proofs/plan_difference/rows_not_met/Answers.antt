@@ -1,5 +1,4 @@
-use Rattle.std.proofs.Common.{arith}
-use Rattle.plan.specs.declared.Row.{Row}
+use Rattle.row_rules.proofs.Words.{arith, Row}
 use Rattle.row_rules.proofs.RowsApart.{left_none, left_more, left_all}
 use Rattle.row_rules.proofs.plan_difference.rows_not_met.Goals as goal
 

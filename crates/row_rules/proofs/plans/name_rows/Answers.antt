@@ -1,10 +1,4 @@
-use Rattle.std.proofs.Common.{rules, arith, ◌≡◌, ℕ, get_or}
-use Rattle.std.specs.Prelude.{Option}
-use Rattle.plan.specs.declared.Row.{Row}
-use Rattle.commands.specs.declared.rows.OrderRow.{OrderRow}
-use Rattle.commands.specs.declared.rows.LotRow.{LotRow}
-use Rattle.row_rules.specs.Plans.{named_row}
-use Rattle.row_rules.specs.LookUps.{row_given}
+use Rattle.row_rules.proofs.Words.{rules, arith, ◌≡◌, ℕ, get_or, Option, Row, OrderRow, LotRow, named_row, row_given}
 use Rattle.row_rules.proofs.Naming.{naming_all, naming_more}
 use Rattle.row_rules.proofs.plans.name_rows.Goals as goal
 

@@ -1,6 +1,6 @@
 use Rattle.row_rules.specs.LookUps.{row_given}
 use Rattle.row_rules.proofs.Naming.{named_agree}
-use Rattle.row_rules.proofs.Giving.{same_items}
+use Rattle.row_rules.proofs.Making.{same_items}
 use Rattle.row_rules.proofs.plans.named_rows.Goals as goal
 
 pub returns : goal.returns

@@ -1,8 +1,6 @@
-use Rattle.row_rules.specs.LookUps.{rows_given}
-use Rattle.row_rules.proofs.Giving.{same_items, dropped_given}
+use Rattle.row_rules.proofs.Words.{ap, rows_to_drop}
+use Rattle.row_rules.proofs.Making.{same_items}
 use Rattle.row_rules.proofs.plans.rows_to_drop.Goals as goal
 
 pub returns : goal.returns
-returns c =
-    let a = c.args in
-    same_items c.rows_gone.result _ _ c.rows_gone.ensures (dropped_given (rows_given c.in_ok-by_order.by_order) a.news.now c.in_ok-by_order.ensures a.gtin.now a.olds.now)
+returns c = same_items c.passing.result _ _ c.passing.ensures (ap (rows_to_drop c.args.gtin.now c.args.olds.now) c.in_ok-by_share.ensures)

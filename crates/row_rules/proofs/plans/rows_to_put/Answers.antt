@@ -1,8 +1,6 @@
-use Rattle.row_rules.specs.LookUps.{rows_given}
-use Rattle.row_rules.proofs.Giving.{same_items, put_given}
+use Rattle.row_rules.proofs.Words.{List, ap, ReservedRow, rows_to_put}
+use Rattle.row_rules.proofs.Making.{same_items}
 use Rattle.row_rules.proofs.plans.rows_to_put.Goals as goal
 
 pub returns : goal.returns
-returns c =
-    let a = c.args in
-    same_items c.rows_unlike.result _ _ c.rows_unlike.ensures (put_given (rows_given c.in_ok-by_order.by_order) a.olds.now c.in_ok-by_order.ensures a.news.now)
+returns c = same_items c.failing.result _ _ c.failing.ensures (ap (λ (olds : List ReservedRow). rows_to_put olds c.args.news.now) c.in_ok-by_share.ensures)

@@ -1,7 +1,4 @@
-use Rattle.std.proofs.Common.{◌∙◌}
-use Rattle.plan.specs.Overlap.{plan_rows}
-use Rattle.plan.proofs.Counting.{cut_is}
-use Rattle.row_rules.specs.Replanning.{first_as_one}
+use Rattle.row_rules.proofs.Words.{◌∙◌, plan_rows, cut_is, first_as_one}
 use Rattle.row_rules.proofs.BehindCut.{one_small, one_stays}
 use Rattle.row_rules.proofs.replanning.plans_behind_cut.Goals as goal
 

@@ -1,6 +1,4 @@
-use Rattle.std.proofs.Common.{◌∙◌}
-use Rattle.std.proofs.lemmas.Result.{IfOk-weaker}
-use Rattle.row_rules.specs.Replanning.{replanned_from}
+use Rattle.row_rules.proofs.Words.{◌∙◌, IfOk-weaker, replanned_from}
 use Rattle.row_rules.proofs.BehindCut.{small_lists}
 use Rattle.row_rules.proofs.replanning.replan_between.Goals as goal
 
@@ -20,4 +18,4 @@ returns c =
     let wants = c.as_slice-3.ensures.value ∙ c.in_ok-wants.ensures.told in
     let offers = c.as_slice-4.ensures.value ∙ c.in_ok-offers.ensures.told in
     IfOk-weaker c.replan_told.result _ _
-    (λ r e. e ∙ (λ i. replanned_from g m.demands.now.rows.orders.now m.supplies.now.rows.lots.now (wanted i) (offered i) n.demands.now.rows.orders.now n.supplies.now.rows.lots.now (wants i) (offers i))) c.replan_told.ensures
+    (λ r e. e ∙ (λ i. replanned_from g m.demands.now.orders.now (c.all.ensures i) (wanted i) (offered i) n.demands.now.orders.now (c.all-2.ensures i) (wants i) (offers i))) c.replan_told.ensures

@@ -1,7 +1,4 @@
-use Rattle.std.proofs.Common.{ℕ, ◌++◌, List, ap, ◌∙◌, arith}
-use Rattle.commands.specs.declared.rows.ReservedRow.{ReservedRow}
-use Rattle.row_rules.specs.Between.{replanned_between}
-use Rattle.row_rules.specs.declared.replanning.Replanned.{Replanned}
+use Rattle.row_rules.proofs.Words.{ℕ, ◌++◌, List, ap, ◌∙◌, arith, ReservedRow, replanned_between, Replanned}
 use Rattle.row_rules.proofs.GatheringShares.{both_more, both_put, both_dropped}
 use Rattle.row_rules.proofs.replanning.replan_each.Goals as goal
 

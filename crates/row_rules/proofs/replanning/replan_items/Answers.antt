@@ -1,9 +1,4 @@
-use Rattle.std.proofs.Common.{ℕ, List, ap, ◌∙◌}
-use Rattle.std.specs.Prelude.{flat_map}
-use Rattle.std.proofs.lemmas.Result.{IfOk-weaker}
-use Rattle.row_rules.specs.Replanning.{replanned_from}
-use Rattle.row_rules.specs.declared.indexed.DemandsIndexed.{DemandsIndexed}
-use Rattle.row_rules.specs.declared.indexed.SuppliesIndexed.{SuppliesIndexed}
+use Rattle.row_rules.proofs.Words.{ℕ, List, ◌∙◌, flat_map, IfOk-weaker, replanned_from}
 use Rattle.row_rules.proofs.Sides.{AreDemandsOf, AreSuppliesOf, needed, offered, needed_of, offered_of, between_is}
 use Rattle.row_rules.proofs.replanning.replan_items.Goals as goal
 
@@ -19,8 +14,7 @@ returns-clause-put c =
     let n = c.both_indexed-after.ensures in
     let same = λ (g : List ℕ).
     between_is c.both_indexed-before.result c.both_indexed-after.result s.meta.day c.args.day old.demands r.demands old.supplies r.supplies
-    (ap (λ (x : DemandsIndexed). x.rows) m.demands ∙ c.in_ok-wanted.ensures.rows) (ap (λ (x : SuppliesIndexed). x.day) m.supplies ∙ c.in_ok-offered.ensures.day) (ap (λ (x : SuppliesIndexed). x.rows) m.supplies ∙ c.in_ok-offered.ensures.rows)
-    (ap (λ (x : DemandsIndexed). x.rows) n.demands ∙ c.in_ok-wants.ensures.rows) (ap (λ (x : SuppliesIndexed). x.day) n.supplies ∙ c.in_ok-offers.ensures.day) (ap (λ (x : SuppliesIndexed). x.rows) n.supplies ∙ c.in_ok-offers.ensures.rows) g
+    (m.demands ∙ c.in_ok-wanted.ensures) (m.supplies ∙ c.in_ok-offered.ensures) (n.demands ∙ c.in_ok-wants.ensures) (n.supplies ∙ c.in_ok-offers.ensures) g
     ∙ (λ i. replanned_from g (o.orders i) (o.lots i) (needed_of g s.rows old.demands demands i) (offered_of g s.meta.day s.rows old.supplies supplies i) r.demands.orders.now r.supplies.lots.now (needed g r.demands) (offered g c.args.day r.supplies)) in
     IfOk-weaker c.replan_each.result _ _ (λ x e. e ∙ (λ i. flat_map (λ g. (same g i).put) c.args.gtins.now)) c.replan_each.ensures.put
 
@@ -36,7 +30,6 @@ returns-clause-dropped c =
     let n = c.both_indexed-after.ensures in
     let same = λ (g : List ℕ).
     between_is c.both_indexed-before.result c.both_indexed-after.result s.meta.day c.args.day old.demands r.demands old.supplies r.supplies
-    (ap (λ (x : DemandsIndexed). x.rows) m.demands ∙ c.in_ok-wanted.ensures.rows) (ap (λ (x : SuppliesIndexed). x.day) m.supplies ∙ c.in_ok-offered.ensures.day) (ap (λ (x : SuppliesIndexed). x.rows) m.supplies ∙ c.in_ok-offered.ensures.rows)
-    (ap (λ (x : DemandsIndexed). x.rows) n.demands ∙ c.in_ok-wants.ensures.rows) (ap (λ (x : SuppliesIndexed). x.day) n.supplies ∙ c.in_ok-offers.ensures.day) (ap (λ (x : SuppliesIndexed). x.rows) n.supplies ∙ c.in_ok-offers.ensures.rows) g
+    (m.demands ∙ c.in_ok-wanted.ensures) (m.supplies ∙ c.in_ok-offered.ensures) (n.demands ∙ c.in_ok-wants.ensures) (n.supplies ∙ c.in_ok-offers.ensures) g
     ∙ (λ i. replanned_from g (o.orders i) (o.lots i) (needed_of g s.rows old.demands demands i) (offered_of g s.meta.day s.rows old.supplies supplies i) r.demands.orders.now r.supplies.lots.now (needed g r.demands) (offered g c.args.day r.supplies)) in
     IfOk-weaker c.replan_each.result _ _ (λ x e. e ∙ (λ i. flat_map (λ g. (same g i).dropped) c.args.gtins.now)) c.replan_each.ensures.dropped

@@ -1,6 +1,4 @@
-use Rattle.std.proofs.Common.{◌∙◌}
-use Rattle.std.proofs.lemmas.Result.{IfOk-weaker}
-use Rattle.row_rules.specs.Replanning.{replanned_from}
+use Rattle.row_rules.proofs.Words.{◌∙◌, IfOk-weaker, replanned_from}
 use Rattle.row_rules.proofs.Sides.{AreDemandsOf, AreSuppliesOf, needed_of, offered_of}
 use Rattle.row_rules.proofs.BehindCut.{small_lists}
 use Rattle.row_rules.proofs.replanning.replan_open.Goals as goal

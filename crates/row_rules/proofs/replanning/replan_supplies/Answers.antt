@@ -1,10 +1,4 @@
-use Rattle.std.proofs.Common.{sym, ap, ◌∙◌, false}
-use Rattle.std.specs.Prelude.{◌≡◌}
-use Rattle.std.specs.List.{list_any}
-use Rattle.commands.specs.declared.rows.OrderRow.{OrderRow}
-use Rattle.machine.specs.Planning.{is_open_state}
-use Rattle.row_rules.specs.Replanning.{item_demands, item_supplies}
-use Rattle.row_rules.specs.Status.{earliest_seen}
+use Rattle.row_rules.proofs.Words.{sym, ap, ◌∙◌, false, ◌≡◌, list_any, OrderRow, is_open_state, item_demands, item_supplies, earliest_seen}
 use Rattle.row_rules.proofs.NoneOpen.{none_demanded, nothing_replanned}
 use Rattle.row_rules.proofs.replanning.replan_supplies.Goals as goal
 

@@ -1,6 +1,4 @@
-use Rattle.std.proofs.Common.{◌∙◌}
-use Rattle.std.proofs.lemmas.Result.{IfOk-weaker}
-use Rattle.row_rules.specs.Replanning.{replanned_rows}
+use Rattle.row_rules.proofs.Words.{◌∙◌, IfOk-weaker, replanned_rows}
 use Rattle.row_rules.proofs.replanning.replan_told.Goals as goal
 
 pub returns : goal.returns

@@ -1,6 +1,5 @@
-use Rattle.std.proofs.Common.{ap, ◌∙◌}
-use Rattle.row_rules.specs.Plans.{named_rows}
-use Rattle.row_rules.proofs.Giving.{same_items}
+use Rattle.row_rules.proofs.Words.{ap, ◌∙◌, named_rows}
+use Rattle.row_rules.proofs.Making.{same_items}
 use Rattle.row_rules.proofs.replanning.shares_apart.Goals as goal
 
 pub returns : goal.returns

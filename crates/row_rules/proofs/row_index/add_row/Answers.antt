@@ -1,11 +1,4 @@
-use Rattle.std.proofs.Common.{List, ℕ, [], ◌∷◌, ◌++◌, ap, ◌∙◌}
-use Rattle.std.specs.Prelude.{reverse, if◌then◌else◌}
-use Rattle.std.specs.Ordering.{nat_cmp}
-use Rattle.std.specs.Cmp.Lexicographic.{slice_cmp}
-use Rattle.std.specs.BTreeMap.{get}
-use Rattle.std.proofs.lemmas.List.{reverse-reverse}
-use Rattle.values.specs.Values.{same_text}
-use Rattle.row_rules.specs.LookUps.{rows_or}
+use Rattle.row_rules.proofs.Words.{List, ℕ, [], ◌∷◌, ◌++◌, ap, ◌∙◌, reverse, if◌then◌else◌, nat_cmp, slice_cmp, get, reverse-reverse, same_text, rows_or}
 use Rattle.row_rules.proofs.LookingUp.{ok_then}
 use Rattle.row_rules.proofs.row_index.add_row.Goals as goal
 

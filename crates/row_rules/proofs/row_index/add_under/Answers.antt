@@ -1,10 +1,4 @@
-use Rattle.std.proofs.Common.{[], ◌∷◌, ◌++◌, cond, ap, sym, ◌∙◌, rules}
-use Rattle.std.specs.Prelude.{Some, None, reverse}
-use Rattle.std.specs.Option.{option_copied_mut}
-use Rattle.std.specs.Ordering.{nat_cmp}
-use Rattle.std.specs.Cmp.Lexicographic.{slice_cmp}
-use Rattle.std.specs.BTreeMap.{get, is_at}
-use Rattle.std.proofs.lemmas.List.{reverse-reverse}
+use Rattle.row_rules.proofs.Words.{[], ◌∷◌, ◌++◌, cond, ap, sym, ◌∙◌, rules, Some, None, reverse, option_copied_mut, nat_cmp, slice_cmp, get, is_at, reverse-reverse}
 use Rattle.row_rules.proofs.LookingUp.{row_added, ok_then}
 use Rattle.row_rules.proofs.row_index.add_under.Goals as goal
 

@@ -1,6 +1,4 @@
-use Rattle.std.proofs.Common.{Bool, ap, ◌∙◌}
-use Rattle.std.specs.Prelude.{filter}
-use Rattle.values.specs.Values.{same_text}
+use Rattle.row_rules.proofs.Words.{Bool, ap, ◌∙◌, filter, same_text}
 use Rattle.row_rules.proofs.LookingUp.{filter_twice}
 use Rattle.row_rules.proofs.row_index.by_text.Goals as goal
 

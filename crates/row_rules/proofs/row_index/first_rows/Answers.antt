@@ -1,6 +1,4 @@
-use Rattle.std.proofs.Common.{Bool, take, ap, ◌∙◌}
-use Rattle.std.specs.Prelude.{◌==◌, if◌then◌else◌, find, Some, None}
-use Rattle.std.specs.Option.{option_or}
+use Rattle.row_rules.proofs.Words.{Bool, take, ap, ◌∙◌, ◌==◌, if◌then◌else◌, find, Some, None, option_or}
 use Rattle.row_rules.proofs.LookingUp.{find_more}
 use Rattle.row_rules.proofs.row_index.first_rows.Goals as goal
 

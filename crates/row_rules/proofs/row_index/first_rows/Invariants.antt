@@ -1,7 +1,4 @@
-use Rattle.std.proofs.Common.{◌≡◌, ℕ, take}
-use Rattle.std.specs.Prelude.{◌==◌, find}
-use Rattle.std.specs.Ordering.{nat_cmp}
-use Rattle.std.specs.BTreeMap.{get}
+use Rattle.row_rules.proofs.Words.{◌≡◌, ℕ, take, ◌==◌, find, nat_cmp, get}
 use Rattle.row_rules.proofs.row_index.first_rows.Given as goal
 
 abbrev pub invariant-loop-row : goal.invariant-loop-row

@@ -1,10 +1,4 @@
-use Rattle.std.proofs.Common.{◌≡◌, ℕ, List, [], take}
-use Rattle.std.specs.Prelude.{reverse, filter}
-use Rattle.std.specs.Ordering.{nat_cmp}
-use Rattle.std.specs.Cmp.Lexicographic.{slice_cmp}
-use Rattle.std.specs.BTreeMap.{get}
-use Rattle.values.specs.Values.{same_text}
-use Rattle.row_rules.specs.LookUps.{rows_or}
+use Rattle.row_rules.proofs.Words.{◌≡◌, ℕ, List, [], take, reverse, filter, nat_cmp, slice_cmp, get, same_text, rows_or}
 use Rattle.row_rules.proofs.row_index.group.Given as goal
 
 abbrev pub invariant-loop-row : goal.invariant-loop-row

@@ -1,6 +1,4 @@
-use Rattle.std.proofs.Common.{Bool, arith, ap, ◌∙◌, ◌++◌, [], ◌∷◌}
-use Rattle.std.specs.Prelude.{not, if◌then◌else◌}
-use Rattle.std.specs.List.{list_any}
+use Rattle.row_rules.proofs.Words.{Bool, arith, ap, ◌∙◌, ◌++◌, [], ◌∷◌, not, if◌then◌else◌, list_any}
 use Rattle.row_rules.proofs.Walking.{kept_all, kept_more}
 use Rattle.row_rules.proofs.row_search.rows_not_among.Goals as goal
 

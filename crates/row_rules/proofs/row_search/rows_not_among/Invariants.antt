@@ -1,5 +1,4 @@
-use Rattle.std.specs.Prelude.{not}
-use Rattle.std.specs.List.{list_any}
+use Rattle.row_rules.proofs.Words.{not, list_any}
 use Rattle.row_rules.proofs.Walking.{IsKept}
 use Rattle.row_rules.proofs.row_search.rows_not_among.Given as goal
 

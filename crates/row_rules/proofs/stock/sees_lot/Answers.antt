@@ -1,7 +1,4 @@
-use Rattle.std.proofs.Common.{List, ap, ◌∙◌}
-use Rattle.std.specs.Prelude.{find, is_some}
-use Rattle.commands.specs.declared.rows.LotRow.{LotRow}
-use Rattle.machine.specs.Postings.{is_lot}
+use Rattle.row_rules.proofs.Words.{List, ap, ◌∙◌, find, is_some, LotRow, is_lot}
 use Rattle.row_rules.proofs.stock.sees_lot.Goals as goal
 
 pub returns : goal.returns

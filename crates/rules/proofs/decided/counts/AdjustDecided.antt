@@ -1,18 +1,5 @@
 -- Adjustments are decided as the machine decides them.
-use Rattle.std.proofs.Common.{List, ◌∷◌, refl}
-use Rattle.std.specs.Prelude.{ℤ, Result}
-use Rattle.commands.specs.declared.key.Key.{Key}
-use Rattle.commands.specs.declared.command.Adjustment.{Adjustment}
-use Rattle.commands.specs.declared.command.Command.TheVariants.{Adjust}
-use Rattle.machine.specs.Acts.{Act}
-use Rattle.machine.specs.Once.{IsHistory}
-use Rattle.machine.specs.Tables.{tables_of}
-use Rattle.rules.specs.Slices.{IsSlice}
-use Rattle.goods_rules.specs.DecidedCount.{adjust_seen, adjust_changes}
-use Rattle.row_rules.specs.declared.slice.Slice.{Slice}
-use Rattle.row_rules.specs.declared.slice.Change.{Change}
-use Rattle.row_rules.specs.declared.slice.RuleFault.{RuleFault}
-use Rattle.machine.proofs.Tests.{same_text_refl, is_lot_refl}
+use Rattle.rules.proofs.Words.{List, ◌∷◌, refl, ℤ, Result, Key, Adjustment, Adjust, Act, IsHistory, tables_of, IsSlice, adjust_seen, adjust_changes, Slice, Change, RuleFault, same_text_refl, is_lot_refl}
 use Rattle.rules.proofs.rows.PostedRows.{puts_none}
 use Rattle.rules.proofs.decided.Decisions.{AreRight, IsChange}
 use Rattle.rules.proofs.decided.counts.AdjustJudged.{adjust_judged}

@@ -1,19 +1,5 @@
 -- An adjustment judged by its slice is judged as by the acts.
-use Rattle.std.proofs.Common.{◌≡◌, true, not, List, [], ◌∷◌, refl}
-use Rattle.std.specs.Prelude.{nat_lt, ℤ}
-use Rattle.commands.specs.declared.key.Key.{Key}
-use Rattle.commands.specs.declared.command.Adjustment.{Adjustment}
-use Rattle.commands.specs.declared.command.Command.TheVariants.{Adjust}
-use Rattle.commands.specs.declared.refusal.Refusal.TheVariants.{UnknownItem, UnknownBin, UnknownLot, NotInBin, OverUnits}
-use Rattle.machine.specs.Acts.{Act}
-use Rattle.machine.specs.Once.{IsHistory}
-use Rattle.machine.specs.Tables.{tables_of}
-use Rattle.machine.specs.Touched.{is_touched}
-use Rattle.rules.specs.Slices.{IsSlice}
-use Rattle.goods_rules.specs.DecidedCount.{adjust_seen}
-use Rattle.machine.specs.Verdict.{first_refusal, judgement, taken_off}
-use Rattle.row_rules.specs.declared.slice.Slice.{Slice}
-use Rattle.machine.proofs.Tests.{same_text_refl, is_lot_refl}
+use Rattle.rules.proofs.Words.{◌≡◌, true, not, List, [], ◌∷◌, refl, nat_lt, ℤ, Key, Adjustment, Adjust, UnknownItem, UnknownBin, UnknownLot, NotInBin, OverUnits, Act, IsHistory, tables_of, is_touched, IsSlice, adjust_seen, first_refusal, judgement, taken_off, Slice, same_text_refl, is_lot_refl}
 use Rattle.rules.proofs.rows.SliceTells.{item_told, bin_told}
 use Rattle.rules.proofs.rows.LotTold.{lot_known_told, in_bin_told}
 use Rattle.rules.proofs.decided.counts.CountJudged.{over_told_change}

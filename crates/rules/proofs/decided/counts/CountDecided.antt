@@ -1,24 +1,5 @@
 -- Counts are decided as the machine decides them.
-use Rattle.std.proofs.Common.{◌≡◌, ℕ, suc, ◌-◌, true, false, List, ◌∷◌, ◌++◌, refl, ap, sym, subst, ◌∙◌, arith}
-use Rattle.std.specs.Prelude.{zero, cond, ltb, min, ℤ, pos, negsuc, ◌-ℤ◌, Result}
-use borrow.Author.Tests.{ltb-false, ltb-true}
-use Rattle.commands.specs.declared.key.Key.{Key}
-use Rattle.commands.specs.declared.command.Recount.{Recount}
-use Rattle.commands.specs.declared.command.Command.TheVariants.{Count}
-use Rattle.machine.specs.Acts.{Act, next_number}
-use Rattle.machine.specs.Postings.{InBin, WriteOff}
-use Rattle.machine.specs.Ledger.{posting}
-use Rattle.machine.specs.Planning.{in_bin}
-use Rattle.machine.specs.Verdict.{taken_off, put_on}
-use Rattle.machine.specs.Once.{IsHistory}
-use Rattle.machine.specs.Tables.{tables_of}
-use Rattle.rules.specs.Slices.{IsSlice}
-use Rattle.row_rules.specs.SeenLots.{in_bin_seen}
-use Rattle.goods_rules.specs.DecidedCount.{SIGNED_CAP, found_less, count_seen, count_changes, corrections}
-use Rattle.row_rules.specs.declared.slice.Slice.{Slice}
-use Rattle.row_rules.specs.declared.slice.Change.{Change}
-use Rattle.row_rules.specs.declared.slice.RuleFault.{RuleFault}
-use Rattle.machine.proofs.Tests.{is_lot_refl, same_text_refl}
+use Rattle.rules.proofs.Words.{◌≡◌, ℕ, suc, ◌-◌, true, false, List, ◌∷◌, ◌++◌, refl, ap, sym, subst, ◌∙◌, arith, zero, cond, ltb, min, ℤ, pos, negsuc, ◌-ℤ◌, Result, ltb-false, ltb-true, Key, Recount, Count, Act, next_number, InBin, WriteOff, posting, in_bin, taken_off, put_on, IsHistory, tables_of, IsSlice, in_bin_seen, SIGNED_CAP, found_less, count_seen, count_changes, corrections, Slice, Change, RuleFault, is_lot_refl, same_text_refl}
 use Rattle.rules.proofs.rows.LotUnits.{bin_within_limit}
 use Rattle.rules.proofs.rows.LotTold.{in_bin_told}
 use Rattle.rules.proofs.rows.PostedRows.{puts_none}

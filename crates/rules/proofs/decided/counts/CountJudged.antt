@@ -1,24 +1,5 @@
 -- A count judged by its slice is judged as by the acts; and the limit of an item's units, where some come and some go.
-use Rattle.std.proofs.Common.{◌≡◌, ℕ, suc, ◌+◌, ◌-◌, ◌≤◌, true, false, not, List, [], ◌∷◌, refl, ap, sym, ◌∙◌, arith, lit≤}
-use Rattle.std.specs.Prelude.{nat_lt, ℤ, pos, negsuc}
-use Rattle.commands.specs.declared.limits.TheConstants.{UNITS_MAX}
-use Rattle.commands.specs.declared.key.Key.{Key}
-use Rattle.commands.specs.declared.command.Recount.{Recount}
-use Rattle.commands.specs.declared.command.Command.TheVariants.{Count}
-use Rattle.commands.specs.declared.refusal.Refusal.TheVariants.{UnknownItem, UnknownBin, UnknownLot, OverUnits}
-use borrow.Author.Tests.{ltb-false, ltb-true, lt-ltb, le-ltb}
-use Rattle.machine.specs.Acts.{Act}
-use Rattle.machine.specs.Planning.{in_bin, units_in_house}
-use Rattle.machine.specs.Once.{IsHistory}
-use Rattle.machine.specs.Tables.{tables_of}
-use Rattle.machine.specs.Touched.{is_touched}
-use Rattle.rules.specs.Slices.{IsSlice, plans}
-use Rattle.row_rules.specs.Seen.{capped, stock_units, staged_units}
-use Rattle.goods_rules.specs.DecidedCount.{is_over_without, count_seen}
-use Rattle.machine.specs.Verdict.{first_refusal, judgement, taken_off, put_on}
-use Rattle.row_rules.specs.declared.slice.Slice.{Slice}
-use Rattle.machine.proofs.Tests.{same_text_refl, is_lot_refl}
-use Rattle.machine.proofs.histories.UnitsLimit.{units_within_limit}
+use Rattle.rules.proofs.Words.{◌≡◌, ℕ, suc, ◌+◌, ◌-◌, ◌≤◌, true, false, not, List, [], ◌∷◌, refl, ap, sym, ◌∙◌, arith, lit≤, nat_lt, ℤ, pos, negsuc, ltb-false, ltb-true, lt-ltb, le-ltb, UNITS_MAX, Key, Recount, Count, UnknownItem, UnknownBin, UnknownLot, OverUnits, Act, in_bin, units_in_house, IsHistory, tables_of, is_touched, IsSlice, plans, capped, stock_units, staged_units, is_over_without, count_seen, first_refusal, judgement, taken_off, put_on, Slice, same_text_refl, is_lot_refl, units_within_limit}
 use Rattle.rules.proofs.rows.LotUnits.{bin_within_limit}
 use Rattle.rules.proofs.rows.SliceTells.{item_told, bin_told}
 use Rattle.rules.proofs.rows.LotTold.{lot_known_told, in_bin_told}

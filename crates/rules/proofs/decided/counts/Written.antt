@@ -1,38 +1,6 @@
 -- Units written on to a bin, or off it: what is changed is the change of the act.
-use Rattle.std.proofs.Common.{◌≡◌, ℕ, suc, Bool, true, false, ◌&&◌, List, [], ◌∷◌, ◌++◌, refl, ap, sym, subst, ◌∙◌, arith}
-use Rattle.std.specs.Prelude.{zero, ◌==◌, if◌then◌else◌, nat_le, length, codes, decimal, flat_map, ℤ, pos, negsuc, int_lt}
-use Rattle.std.proofs.lemmas.Bool.Decides.{nat_tests}
-use borrow.Author.Tests.{lt-ltb}
-use Rattle.values.specs.declared.lot.LotId.{LotId}
-use Rattle.commands.specs.declared.limits.TheConstants.{ACTS_MAX}
-use Rattle.commands.specs.declared.command.Command.{Command}
-use Rattle.commands.specs.declared.rows.CardKind.{CardKind}
-use Rattle.commands.specs.declared.rows.CardKind.TheVariants.{WriteOn, WriteOff as WrittenOff}
-use Rattle.commands.specs.declared.rows.CardRow.{CardRow}
-use Rattle.commands.specs.declared.rows.StockRow.{StockRow}
-use Rattle.commands.specs.declared.rows.StagedRow.{StagedRow}
-use Rattle.machine.specs.Acts.{Act, next_number}
-use Rattle.machine.specs.Postings.{InBin, WriteOff, is_lot, of_item}
-use Rattle.machine.specs.Standing.{today}
-use Rattle.machine.specs.Ledger.{posting, postings_of, written}
-use Rattle.machine.specs.Verdict.{taken_off, put_on}
-use Rattle.machine.specs.Cards.{card_lines, lot_units_in_house}
-use Rattle.machine.specs.Replies.{further_field, change_field}
-use Rattle.machine.specs.Once.{IsHistory}
-use Rattle.machine.specs.Tables.{tables_of}
-use Rattle.machine.specs.Touched.{is_touched}
-use Rattle.machine.specs.KeyedRows.{no_two}
-use Rattle.rules.specs.Slices.{IsSlice, plans, names_bin, names_lot}
-use Rattle.row_rules.specs.Seen.{lot_units}
-use Rattle.row_rules.specs.declared.slice.Slice.{Slice}
-use Rattle.shelves.specs.declared.posting.Place.TheVariants as told
-use Rattle.shelves.specs.Shelf.{stages, rows_posted}
-use Rattle.shelves.specs.Told.{listed}
-use Rattle.shelves.specs.PostedChanges.{stock_after, staged_after}
-use Rattle.goods_rules.specs.DecidedCount.{written_told, correction_card, correction_cards, correction_facts, corrections}
-use Rattle.row_rules.proofs.Walking.{append_none}
-use Rattle.machine.proofs.Tests.{same_text_refl, is_lot_item}
-use Rattle.machine.proofs.histories.Accepted.{room_for_acts}
+use Rattle.rules.proofs.Words.{◌≡◌, ℕ, suc, Bool, true, false, ◌&&◌, List, [], ◌∷◌, ◌++◌, refl, ap, sym, subst, ◌∙◌, arith, zero, ◌==◌, if◌then◌else◌, nat_le, length, codes, decimal, flat_map, ℤ, pos, negsuc, int_lt, nat_tests, lt-ltb, LotId, ACTS_MAX, Command, CardKind, WriteOn, WrittenOff, CardRow, StockRow, StagedRow, Act, next_number, InBin, WriteOff, is_lot, of_item, today, posting, postings_of, written, taken_off, put_on, card_lines, lot_units_in_house, further_field, change_field, IsHistory, tables_of, is_touched, no_two, IsSlice, plans, names_bin, names_lot, lot_units, Slice, stages, rows_posted, listed, stock_after, staged_after, written_told, correction_card, correction_cards, correction_facts, corrections, append_none, same_text_refl, is_lot_item, room_for_acts}
+use Rattle.rules.specs.declared.posting.Place.TheVariants as told
 use Rattle.rules.proofs.rows.LotUnits.{lot_units_told}
 use Rattle.rules.proofs.rows.PostedRows.{Each, each_once, MakesNothingKnown, PutsLots}
 use Rattle.rules.proofs.decided.Decisions.{IsChange, day_seen, number_same}

@@ -1,31 +1,5 @@
 -- The opening of a day is decided as the machine decides it.
-use Rattle.std.proofs.Common.{◌≡◌, ℕ, Bool, true, false, ◌&&◌, not, List, ◌∷◌, ◌++◌, refl, ◌∙◌, arith}
-use Rattle.std.specs.Prelude.{◌==◌, ◌||◌, ℤ, pos, ◌+ℤ◌, Some, Result, nat_le, length, codes, decimal}
-use Rattle.std.specs.List.{list_any}
-use Rattle.values.specs.Values.{same_text}
-use Rattle.values.specs.declared.lot.LotId.{LotId}
-use Rattle.commands.specs.declared.limits.TheConstants.{ACTS_MAX}
-use Rattle.commands.specs.declared.key.Key.{Key}
-use Rattle.commands.specs.declared.command.Command.TheVariants.{OpenDay}
-use Rattle.commands.specs.declared.rows.ReservedRow.{ReservedRow}
-use Rattle.machine.specs.Acts.{Act, next_number}
-use Rattle.machine.specs.Postings.{is_lot, of_item}
-use Rattle.machine.specs.Standing.{KnownLot, Placed, lots, lots_of, lot_known, orders, has_item, is_shippable}
-use Rattle.machine.specs.Planning.{staged_of_lot}
-use Rattle.machine.specs.Once.{IsHistory}
-use Rattle.machine.specs.Replies.{reply, returned_field}
-use Rattle.machine.specs.Tables.{tables_of, meta_row, reserved_row}
-use Rattle.machine.specs.Touched.{is_touched}
-use Rattle.rules.specs.Slices.{IsSlice, applied, tables_but_repeats, changed}
-use Rattle.row_rules.specs.Seen.{none_put, none_dropped}
-use Rattle.lot_rules.specs.Expiring.{meta_on, staged_gone_on, stock_returned, reserved_put_on, reserved_gone_on, reply_on}
-use Rattle.lot_rules.specs.DecidedDay.{day_judged, day_changes}
-use Rattle.row_rules.specs.declared.slice.Slice.{Slice}
-use Rattle.row_rules.specs.declared.slice.Change.{Change}
-use Rattle.row_rules.specs.declared.slice.RuleFault.{RuleFault}
-use Rattle.machine.proofs.Tests.{or_first, same_text_refl}
-use Rattle.machine.proofs.histories.Accepted.{room_for_acts}
-use Rattle.machine.proofs.histories.LotItems.{lots_have_items, item_of_lot}
+use Rattle.rules.proofs.Words.{◌≡◌, ℕ, Bool, true, false, ◌&&◌, not, List, ◌∷◌, ◌++◌, refl, ◌∙◌, arith, ◌==◌, ◌||◌, ℤ, pos, ◌+ℤ◌, Some, Result, nat_le, length, codes, decimal, list_any, same_text, LotId, ACTS_MAX, Key, OpenDay, ReservedRow, Act, next_number, is_lot, of_item, KnownLot, Placed, lots, lots_of, lot_known, orders, has_item, is_shippable, staged_of_lot, IsHistory, reply, returned_field, tables_of, meta_row, reserved_row, is_touched, IsSlice, applied, tables_but_repeats, changed, none_put, none_dropped, meta_on, staged_gone_on, stock_returned, reserved_put_on, reserved_gone_on, reply_on, day_judged, day_changes, Slice, Change, RuleFault, or_first, same_text_refl, room_for_acts, lots_have_items, item_of_lot}
 use Rattle.rules.proofs.rows.TableSteps.{same_tables, names_changed, reserved_changed}
 use Rattle.rules.proofs.rows.DaysAsked.{days_told}
 use Rattle.rules.proofs.rows.LeavingLots.{order_row_still, line_row_still, shipline_row_still, card_row_still}

@@ -1,15 +1,5 @@
 -- The opening of a day judged by its slice is judged as by the acts.
-use Rattle.std.proofs.Common.{◌≡◌, List, [], ◌∷◌}
-use Rattle.std.specs.Prelude.{int_le, ℤ}
-use Rattle.commands.specs.declared.key.Key.{Key}
-use Rattle.commands.specs.declared.command.Command.TheVariants.{OpenDay}
-use Rattle.commands.specs.declared.refusal.Refusal.TheVariants.{DayNotLater}
-use Rattle.machine.specs.Acts.{Act}
-use Rattle.machine.specs.Tables.{tables_of}
-use Rattle.rules.specs.Slices.{IsSlice}
-use Rattle.machine.specs.Verdict.{first_refusal, judgement}
-use Rattle.lot_rules.specs.DecidedDay.{day_judged}
-use Rattle.row_rules.specs.declared.slice.Slice.{Slice}
+use Rattle.rules.proofs.Words.{◌≡◌, List, [], ◌∷◌, int_le, ℤ, Key, OpenDay, DayNotLater, Act, tables_of, IsSlice, first_refusal, judgement, day_judged, Slice}
 use Rattle.rules.proofs.decided.Decisions.{day_seen}
 
 module _ (first : ℤ) (acts : List Act) (key : Key) (day : ℤ) (s : Slice) (slice : IsSlice first (record { key = key; command = OpenDay day }) acts (tables_of first acts) s) where

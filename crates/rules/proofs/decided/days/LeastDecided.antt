@@ -1,32 +1,5 @@
 -- The days that an item asks for are decided as the machine decides them.
-use Rattle.std.proofs.Common.{◌≡◌, ℕ, Bool, true, false, ◌&&◌, not, List, [], ◌∷◌, ◌++◌, refl, ap, sym, ◌∙◌}
-use Rattle.std.specs.Prelude.{if◌then◌else◌, ℤ, pos, ◌+ℤ◌, Option, Some, None, option_map, is_some, find, Result, nat_le, length, codes, decimal}
-use Rattle.values.specs.Values.{same_text}
-use Rattle.values.specs.declared.lot.LotId.{LotId}
-use Rattle.commands.specs.declared.limits.TheConstants.{ACTS_MAX}
-use Rattle.commands.specs.declared.key.Key.{Key}
-use Rattle.commands.specs.declared.command.NewItem.{NewItem}
-use Rattle.commands.specs.declared.command.NewLeast.{NewLeast}
-use Rattle.commands.specs.declared.command.Command.TheVariants.{Least}
-use Rattle.commands.specs.declared.rows.LeastRow.{LeastRow}
-use Rattle.commands.specs.declared.rows.ReservedRow.{ReservedRow}
-use Rattle.machine.specs.Acts.{Act, gathered}
-use Rattle.machine.specs.Postings.{is_lot}
-use Rattle.machine.specs.Standing.{KnownLot, items, item_named, has_item, lot_known, is_held, is_recalled, is_expired, is_shippable, least_in, days_asked, least_days, today}
-use Rattle.machine.specs.Once.{IsHistory}
-use Rattle.machine.specs.Replies.{reply, returned_field}
-use Rattle.machine.specs.Tables.{tables_of, meta_row, least_row, reserved_row}
-use Rattle.machine.specs.Touched.{is_touched}
-use Rattle.rules.specs.Slices.{IsSlice, applied, tables_but_repeats, changed, added, unless_put}
-use Rattle.row_rules.specs.Seen.{none_put, none_dropped}
-use Rattle.row_rules.specs.Status.{days_in}
-use Rattle.lot_rules.specs.Expiring.{staged_gone_on, stock_returned, reserved_put_on, reserved_gone_on, reply_on}
-use Rattle.lot_rules.specs.DecidedLeast.{least_judged, least_row_put, least_rows_after, least_changes}
-use Rattle.row_rules.specs.declared.slice.Slice.{Slice}
-use Rattle.row_rules.specs.declared.slice.Change.{Change}
-use Rattle.row_rules.specs.declared.slice.RuleFault.{RuleFault}
-use Rattle.machine.proofs.Tests.{same_text_is}
-use Rattle.machine.proofs.histories.Accepted.{room_for_acts, least_accepted}
+use Rattle.rules.proofs.Words.{◌≡◌, ℕ, Bool, true, false, ◌&&◌, not, List, [], ◌∷◌, ◌++◌, refl, ap, sym, ◌∙◌, if◌then◌else◌, ℤ, pos, ◌+ℤ◌, Option, Some, None, option_map, is_some, find, Result, nat_le, length, codes, decimal, same_text, LotId, ACTS_MAX, Key, NewItem, NewLeast, Least, LeastRow, ReservedRow, Act, gathered, is_lot, KnownLot, items, item_named, has_item, lot_known, is_held, is_recalled, is_expired, is_shippable, least_in, days_asked, least_days, today, IsHistory, reply, returned_field, tables_of, meta_row, least_row, reserved_row, is_touched, IsSlice, applied, tables_but_repeats, changed, added, unless_put, none_put, none_dropped, days_in, staged_gone_on, stock_returned, reserved_put_on, reserved_gone_on, reply_on, least_judged, least_row_put, least_rows_after, least_changes, Slice, Change, RuleFault, same_text_is, and_not_itself, room_for_acts, least_accepted}
 use Rattle.rules.proofs.rows.FoundRows.{found_passes}
 use Rattle.rules.proofs.rows.TableSteps.{same_tables, names_changed, reserved_changed}
 use Rattle.rules.proofs.rows.LeavingLots.{order_row_still, line_row_still, shipline_row_still, card_row_still}
@@ -35,10 +8,6 @@ use Rattle.rules.proofs.decided.days.LotsOut.{SaysWhenLotsShip, TellsWhenLotsShi
 use Rattle.rules.proofs.decided.days.RowsOut.{stock_at, stock_once, staged_at, out_named, out_put_once}
 use Rattle.rules.proofs.decided.days.ReplyOut.{out_is}
 use Rattle.rules.proofs.decided.days.LeastJudged.{least_is_judged}
-
-never_both : (b : Bool) → b && not b ≡ false
-never_both true = refl
-never_both false = refl
 
 module _ (first : ℤ) (acts : List Act) (key : Key) (l : NewLeast) (known : has_item acts l.gtin ≡ true) where
   abbrev asking : Act
@@ -59,7 +28,7 @@ module _ (first : ℤ) (acts : List Act) (key : Key) (l : NewLeast) (known : has
   lot_touched k found =
       elim (same_text k.lot.gtin l.gtin) as (λ b. is_shippable first acts k && not (not (is_held acts k.lot) && not (is_recalled acts k.lot) && not (is_expired (today first acts +ℤ pos (days_if b k.lot.gtin)) k.expiry)) ≡ true → b ≡ true) [
         | true ↦ λ t. refl
-        | false ↦ λ t. sym (never_both (is_shippable first acts k)) ∙ t
+        | false ↦ λ t. sym (and_not_itself (is_shippable first acts k)) ∙ t
       ]
 
   says : SaysWhenLotsShip first asking acts

@@ -1,30 +1,6 @@
 -- An act that says from which expiry on lots ship: which lots it makes unshippable, and which items it touches, by the rows of its slice.
-use Rattle.std.proofs.Common.{◌≡◌, ℕ, Bool, true, false, ◌&&◌, not, List, [], ◌∷◌, ◌++◌, refl, ap, sym, ◌∙◌}
-use Rattle.std.specs.Prelude.{◌||◌, if◌then◌else◌, ℤ, Option, Some, None, find, filter, map, option_map, is_some}
-use Rattle.std.specs.List.{list_any}
-use Rattle.values.specs.Values.{same_text}
-use Rattle.values.specs.declared.lot.LotId.{LotId}
-use Rattle.commands.specs.declared.rows.ItemRow.{ItemRow}
-use Rattle.commands.specs.declared.rows.LeastRow.{LeastRow}
-use Rattle.commands.specs.declared.rows.LotRow.{LotRow}
-use Rattle.commands.specs.declared.rows.StagedRow.{StagedRow}
-use Rattle.machine.specs.Acts.{Act, gathered, next_number}
-use Rattle.machine.specs.Postings.{InBin, Stage, Posting, is_lot}
-use Rattle.machine.specs.Standing.{RETURNS, KnownLot, Placed, bins, lots, lot_known, hold_in, is_held, recall_in, is_recalled, is_expired, is_shippable, has_item, orders, cancel_in, least_expiry, says_held}
-use Rattle.machine.specs.Ledger.{posting, lot_returned, returned, made_unshippable, postings, postings_of}
-use Rattle.machine.specs.Planning.{staged_of_lot}
-use Rattle.machine.specs.Tables.{tables_of, lot_row, item_row}
-use Rattle.machine.specs.Touched.{is_touched}
-use Rattle.machine.specs.KeyedRows.{AreRows, AreOwn, no_two}
-use Rattle.rules.specs.Slices.{IsSlice, ships, picks, plans, names_order, names_lot, in_bins, on_stages}
-use Rattle.row_rules.specs.Seen.{lot_seen}
-use Rattle.row_rules.specs.SeenStages.{staged_qty}
-use Rattle.row_rules.specs.Status.{is_past_row, earliest_seen}
-use Rattle.lot_rules.specs.Expiring.{is_out, gtins_seen}
-use Rattle.row_rules.specs.declared.slice.Slice.{Slice}
-use Rattle.machine.proofs.Tests.{or_first, or_later, or_none, and_later_false, same_text_is, is_lot_is}
-use Rattle.machine.proofs.Apart.{AllFound, any_found}
-use Rattle.machine.proofs.histories.Lots.{same_known, lots_found}
+use Rattle.rules.proofs.Words.{◌≡◌, ℕ, Bool, true, false, ◌&&◌, not, List, [], ◌∷◌, ◌++◌, refl, ap, sym, ◌∙◌, ◌||◌, if◌then◌else◌, ℤ, Option, Some, None, find, filter, map, option_map, is_some, list_any, same_text, LotId, ItemRow, LeastRow, LotRow, StagedRow, Act, gathered, next_number, InBin, Stage, Posting, is_lot, RETURNS, KnownLot, Placed, lots, lot_known, hold_in, is_held, recall_in, is_recalled, is_expired, is_shippable, has_item, orders, cancel_in, least_expiry, says_held, posting, lot_returned, returned, made_unshippable, postings, postings_of, staged_of_lot, tables_of, lot_row, item_row, is_touched, AreRows, AreOwn, no_two, IsSlice, ships, picks, plans, names_order, names_lot, in_bins, on_stages, lot_seen, staged_qty, is_past_row, earliest_seen, is_out, gtins_seen, Slice, or_first, or_later, or_none, and_later_false, same_text_is, is_lot_is, AllFound, any_found, same_known, lots_found}
+use Rattle.machine.specs.Standing.{bins}
 use Rattle.rules.proofs.rows.FoundRows.{found_passes, found_own}
 use Rattle.rules.proofs.rows.Planned.{no_shipment, no_pick, asked_if_planned}
 use Rattle.rules.proofs.rows.StageTold.{on_stage_told}
@@ -51,15 +27,11 @@ any_in {X = X} sought test keep (y ∷ ys) x e k t =
       | false ↦ λ f. behind (keep y) (any_in sought test keep ys x f k t)
     ] e
   where
-    later : (a b : Bool) → b ≡ true → a || b ≡ true
-    later true b h = refl
-    later false b h = h
-
     behind : (b : Bool) → list_any test (filter keep ys) ≡ true → list_any test (if b then y ∷ filter keep ys else filter keep ys) ≡ true
-    behind true h = later (test y) _ h
+    behind true h = or_later (test y) _ h
     behind false h = h
 
--- what was shippable, and is not for a later expiry alone, expires before it
+-- what was shippable, and is not for a or_later expiry alone, expires before it
 expired_since : (held recalled past now : Bool) → (held && recalled && past) && not (held && recalled && not now) ≡ true → now ≡ true
 expired_since true true true true e = refl
 expired_since true true true false e = let f : false ≡ true = e in cc

@@ -1,31 +1,5 @@
 -- The units of the lots that are out by the rows of the slice are those that the act returns: they are within the limits of all items together.
-use Rattle.std.proofs.Common.{◌≡◌, ℕ, ◌+◌, ◌*◌, ◌≤◌, Bool, true, false, ◌&&◌, List, [], ◌∷◌, refl, ap, sym, ◌∙◌, arith}
-use Rattle.std.specs.Prelude.{◌||◌, if◌then◌else◌, ℤ, length}
-use Rattle.std.specs.List.{list_any}
-use Rattle.values.specs.Values.{same_text}
-use Rattle.values.specs.declared.lot.LotId.{LotId}
-use Rattle.commands.specs.Lists.{total}
-use Rattle.commands.specs.declared.limits.TheConstants.{UNITS_MAX}
-use Rattle.commands.specs.declared.command.NewItem.{NewItem}
-use Rattle.commands.specs.declared.rows.LeastRow.{LeastRow}
-use Rattle.commands.specs.declared.rows.StagedRow.{StagedRow}
-use Rattle.machine.specs.Acts.{Act}
-use Rattle.machine.specs.Postings.{Place, Supplier, InBin, Stage, Shipped, WriteOff, in_house, of_item}
-use Rattle.machine.specs.Standing.{items}
-use Rattle.machine.specs.Ledger.{postings}
-use Rattle.machine.specs.Once.{IsHistory}
-use Rattle.machine.specs.Replies.{units_returned}
-use Rattle.machine.specs.Tables.{tables_of}
-use Rattle.rules.specs.Slices.{IsSlice}
-use Rattle.lot_rules.specs.Expiring.{is_out, units_out}
-use Rattle.row_rules.specs.declared.slice.Slice.{Slice}
-use Rattle.machine.proofs.Tests.{and_both, same_text_turned}
-use Rattle.machine.proofs.Apart.{any_found}
-use Rattle.machine.proofs.histories.Cells.{Cells, holds, holds_split}
-use Rattle.machine.proofs.histories.LegalHistories.{legal_history}
-use Rattle.machine.proofs.histories.LotItems.{items_within_limit}
-use Rattle.machine.proofs.histories.UnitsLimit.{units_within_limit}
-use Rattle.machine.proofs.histories.PlaceRows.{stage_cells, staged_holds}
+use Rattle.rules.proofs.Words.{◌≡◌, ℕ, ◌+◌, ◌*◌, ◌≤◌, Bool, true, false, ◌&&◌, List, [], ◌∷◌, refl, ap, sym, ◌∙◌, arith, ◌||◌, if◌then◌else◌, ℤ, length, list_any, same_text, LotId, total, UNITS_MAX, NewItem, LeastRow, StagedRow, Act, Place, Supplier, InBin, Stage, Shipped, WriteOff, in_house, of_item, items, postings, IsHistory, units_returned, tables_of, IsSlice, is_out, units_out, Slice, and_both, same_text_turned, any_found, Cells, holds, holds_split, legal_history, items_within_limit, units_within_limit, stage_cells, staged_holds, add_totals}
 use Rattle.rules.proofs.rows.LeavingLots.{stages_gone, all_returned}
 use Rattle.rules.proofs.decided.days.LotsOut.{SaysWhenLotsShip, TellsWhenLotsShip, out_touched, makes}
 use Rattle.rules.proofs.decided.days.RowsOut.{all_staged_are}
@@ -35,10 +9,6 @@ use Rattle.rules.proofs.decided.days.RowsOut.{all_staged_are}
 total_within : {X : Type 0} (f : X → ℕ) → ((x : X) → f x ≤ UNITS_MAX) → (xs : List X) → total f xs ≤ UNITS_MAX * length xs
 total_within f small [] = omega arith
 total_within f small (x ∷ xs) = omega (arith, small x, total_within f small xs)
-
-total_of_sum : {X : Type 0} (f g : X → ℕ) (xs : List X) → total (λ x. f x + g x) xs ≡ total f xs + total g xs
-total_of_sum f g [] = omega arith
-total_of_sum f g (x ∷ xs) = omega (arith, total_of_sum f g xs)
 
 module _ (gone : LotId → Bool) where
   abbrev own : List ℕ → StagedRow → ℕ
@@ -62,7 +32,7 @@ module _ (gone : LotId → Bool) where
       → total (λ (r : StagedRow). if gone r.lot then r.qty else 0) rows ≤ total (λ (i : NewItem). total (own i.gtin) rows) is
   by_items is known [] = omega arith
   by_items is known (r ∷ rs) =
-      omega (arith, counted r is (known r.lot), by_items is known rs, total_of_sum (λ (i : NewItem). own i.gtin r) (λ (i : NewItem). total (own i.gtin) rs) is)
+      omega (arith, counted r is (known r.lot), by_items is known rs, add_totals (λ (i : NewItem). own i.gtin r) (λ (i : NewItem). total (own i.gtin) rs) is)
 
 module _ (first : ℤ) (acts : List Act) (act : Act) (s : Slice) (slice : IsSlice first act acts (tables_of first acts) s) (says : SaysWhenLotsShip first act acts)
     (day : ℤ) (least : List LeastRow) (tells : TellsWhenLotsShip first act acts day least) (next : IsHistory first (act ∷ acts)) where

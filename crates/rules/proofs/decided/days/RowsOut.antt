@@ -1,50 +1,14 @@
 -- The rows of a slice after an act that says from which expiry on lots ship: what was staged of the lots that are out stands in RETURNS.
-use Rattle.std.proofs.Common.{◌≡◌, ℕ, ◌+◌, Bool, true, false, ◌&&◌, not, List, [], ◌∷◌, ◌++◌, refl, ap, sym, subst, ◌∙◌, arith}
-use Rattle.std.specs.Prelude.{◌==◌, ◌||◌, if◌then◌else◌, Option, Some, None, find, filter, flat_map, is_some, option_map, ℤ}
-use Rattle.std.specs.List.{list_any}
-use Rattle.values.specs.Values.{same_text}
-use Rattle.values.specs.declared.lot.LotId.{LotId}
-use Rattle.commands.specs.Lists.{total}
-use Rattle.commands.specs.declared.command.NewBin.{NewBin}
-use Rattle.commands.specs.declared.rows.BinRow.{BinRow}
-use Rattle.commands.specs.declared.rows.LeastRow.{LeastRow}
-use Rattle.commands.specs.declared.rows.LotRow.{LotRow}
-use Rattle.commands.specs.declared.rows.StockRow.{StockRow}
-use Rattle.commands.specs.declared.rows.StagedRow.{StagedRow}
-use Rattle.commands.specs.declared.rows.OrderRow.{OrderRow}
-use Rattle.commands.specs.declared.rows.LineRow.{LineRow}
-use Rattle.machine.specs.Acts.{Act}
-use Rattle.machine.specs.Postings.{is_lot, of_item}
-use Rattle.machine.specs.Standing.{RETURNS, KnownLot, Recalling, has_line, says_held}
-use Rattle.machine.specs.Ledger.{postings}
-use Rattle.machine.specs.Planning.{in_bin, is_open}
-use Rattle.machine.specs.Once.{IsHistory}
-use Rattle.machine.specs.Tables.{tables_of, if_any, bin_row, lot_row, recall_row, stock_row, order_row, line_row, staged_row}
-use Rattle.machine.specs.Touched.{is_touched}
-use Rattle.machine.specs.KeyedRows.{AreRows, OrderLot, no_two, same_cell, same_line, same_share}
-use Rattle.rules.specs.Slices.{IsSlice, changed, unless_put}
-use Rattle.row_rules.specs.Seen.{lot_seen}
-use Rattle.row_rules.specs.Status.{is_past_row, earliest_seen}
-use Rattle.row_rules.specs.SeenLots.{stock_put}
-use Rattle.row_rules.specs.Plans.{is_share_of}
-use Rattle.lot_rules.specs.DecidedHold.{staged_of_seen, units_in_returns, returned_put, returns_bin_row, bins_with_returns}
-use Rattle.lot_rules.specs.Expiring.{is_out, gtins_seen, staged_kept_on, staged_gone_on, lot_returned_on, stock_returned, stands_in, stock_on, reserved_put_on, reserved_gone_on}
-use Rattle.row_rules.specs.declared.slice.Slice.{Slice}
-use Rattle.machine.proofs.Tests.{and_both, and_false, or_none, is_zero, not_true, same_text_refl, same_text_is, is_lot_is, is_lot_item, is_lot_refl}
-use Rattle.machine.proofs.Apart.{any_found}
-use Rattle.machine.proofs.histories.Cells.{holds}
-use Rattle.machine.proofs.histories.LegalHistories.{legal_history}
-use Rattle.machine.proofs.histories.ReturnsBin.{returns_named}
+use Rattle.rules.proofs.Words.{◌≡◌, ℕ, ◌+◌, Bool, true, false, ◌&&◌, not, List, [], ◌∷◌, ◌++◌, refl, ap, sym, subst, ◌∙◌, arith, ◌==◌, ◌||◌, if◌then◌else◌, Option, Some, None, find, filter, flat_map, is_some, option_map, ℤ, list_any, list_any-append, same_text, LotId, total, NewBin, BinRow, LeastRow, LotRow, StockRow, StagedRow, OrderRow, LineRow, Act, is_lot, of_item, RETURNS, KnownLot, Recalling, has_line, says_held, postings, in_bin, is_open, IsHistory, tables_of, if_any, bin_row, lot_row, recall_row, stock_row, order_row, line_row, staged_row, is_touched, AreRows, OrderLot, no_two, same_cell, same_line, same_share, IsSlice, changed, unless_put, lot_seen, is_past_row, earliest_seen, stock_put, is_share_of, staged_of_seen, units_in_returns, returned_put, returns_bin_row, bins_with_returns, is_out, gtins_seen, staged_kept_on, staged_gone_on, lot_returned_on, stock_returned, stands_in, stock_on, reserved_put_on, reserved_gone_on, Slice, and_both, and_false, or_none, is_zero, not_true, same_text_refl, same_text_is, is_lot_is, is_lot_item, is_lot_refl, any_found, holds, legal_history, returns_named, staged_holds, stages_of, rows_on}
 use Rattle.rules.proofs.rows.AfterRows.{loosened}
 use Rattle.rules.proofs.rows.TableSteps.{AreNamed}
 use Rattle.rules.proofs.rows.replanned.EachItem.{items_replanned, items_put_once}
-use Rattle.rules.proofs.rows.AddedRows.{find_appended, any_appended}
+use Rattle.rules.proofs.rows.AddedRows.{find_appended}
 use Rattle.rules.proofs.rows.DemandsTold.{TellsDemands}
 use Rattle.rules.proofs.rows.DroppedRows.{rows_left, dropped_at}
 use Rattle.rules.proofs.rows.FoundRows.{there_found}
 use Rattle.rules.proofs.rows.LotTold.{in_bin_told}
 use Rattle.rules.proofs.rows.LotUnits.{bin_within_limit}
-use Rattle.machine.proofs.histories.PlaceRows.{staged_holds}
 use Rattle.rules.proofs.rows.Planned.{no_pick}
 use Rattle.rules.proofs.rows.PutRows.{rows_over}
 use Rattle.rules.proofs.rows.ReturnedRows.{still_some}
@@ -53,7 +17,6 @@ use Rattle.rules.proofs.rows.SliceDemands.{staged_touched, slice_tells_demands}
 use Rattle.rules.proofs.rows.SliceSupplies.{slice_tells_supplies}
 use Rattle.rules.proofs.rows.StockChanged.{any_kept}
 use Rattle.rules.proofs.rows.SuppliesTold.{TellsSupplies, in_stock}
-use Rattle.machine.proofs.histories.UnshippableLots.{stages_of}
 use Rattle.rules.proofs.rows.ClassesTold.{same_urgents}
 use Rattle.rules.proofs.rows.LeavingLots.{MakesThemUnshippable, unstaged, staged_still, in_bin_still, in_returns, open_still, line_still, order_row_still, line_row_still}
 use Rattle.rules.proofs.decided.days.LotsOut.{SaysWhenLotsShip, TellsWhenLotsShip, out_touched, makes, items_apart, items_told}
@@ -131,7 +94,7 @@ module _ (s : Slice) (day : ℤ) (least : List LeastRow) where
   no_other_bin : (b : List ℕ) → same_text b RETURNS ≡ false → (ks : List LotRow) → list_any (λ (r : StockRow). same_text b r.bin) (flat_map (lot_returned_on s day least) ks) ≡ false
   no_other_bin b e [] = refl
   no_other_bin b e (k ∷ ks) =
-      any_appended (λ (r : StockRow). same_text b r.bin) (lot_returned_on s day least k) (flat_map (lot_returned_on s day least) ks) ∙ (λ i. own i || no_other_bin b e ks i)
+      list_any-append (λ (r : StockRow). same_text b r.bin) (lot_returned_on s day least k) (flat_map (lot_returned_on s day least) ks) ∙ (λ i. own i || no_other_bin b e ks i)
     where
       own : list_any (λ (r : StockRow). same_text b r.bin) (lot_returned_on s day least k) ≡ false
       own = elim (is_out s day least k.lot) as (λ t. list_any (λ (r : StockRow). same_text b r.bin) (if t then returned_put s k.lot else []) ≡ false) [
@@ -149,7 +112,7 @@ module _ (s : Slice) (day : ℤ) (least : List LeastRow) where
   no_other_lot : (m : LotId) (ks : List LotRow) → list_any (λ (k : LotRow). is_lot m k.lot) ks ≡ false → list_any (λ (r : StockRow). is_lot m r.lot) (flat_map (lot_returned_on s day least) ks) ≡ false
   no_other_lot m [] e = refl
   no_other_lot m (k ∷ ks) e =
-      any_appended (λ (r : StockRow). is_lot m r.lot) (lot_returned_on s day least k) (flat_map (lot_returned_on s day least) ks) ∙ (λ i. own i || no_other_lot m ks two.1 i)
+      list_any-append (λ (r : StockRow). is_lot m r.lot) (lot_returned_on s day least k) (flat_map (lot_returned_on s day least) ks) ∙ (λ i. own i || no_other_lot m ks two.1 i)
     where
       two : (is_lot m k.lot ≡ false) × (list_any (λ (k : LotRow). is_lot m k.lot) ks ≡ false)
       two = or_none (is_lot m k.lot) (list_any (λ (k : LotRow). is_lot m k.lot) ks) e
@@ -299,7 +262,7 @@ module _ (first : ℤ) (acts : List Act) (act : Act) (s : Slice) (slice : IsSlic
   -- The demands and supplies of each item that the act touches
 
   module _ (h : List ℕ) (t : is_touched first act acts h ≡ true) where
-    pub demands_after : TellsDemands first after h s.rows.orders s.rows.lines (staged_kept_on s day least) s.rows.urgents
+    pub demands_after : TellsDemands first after h (rows_on s day least)
     demands_after =
         let before = slice_tells_demands first acts act s slice says.planned h t in
         let wanted : (o : List ℕ) → is_open first after o && has_line after o h ≡ true → is_open first acts o && has_line acts o h ≡ true = λ o e. (λ i. open_still first acts act gone made next o i && line_still first acts act gone made next o h i) ∙ e in
@@ -324,7 +287,7 @@ module _ (first : ℤ) (acts : List Act) (act : Act) (s : Slice) (slice : IsSlic
         behind : same_text b RETURNS ≡ false → list_any (λ (r : StockRow). same_text b r.bin) (filter (λ r. not (stands_in (stock_returned s day least) r)) s.rows.stock) ≡ true
         behind c =
             ap (λ x. x || list_any (λ (r : StockRow). same_text b r.bin) (filter (λ r. not (stands_in (stock_returned s day least) r)) s.rows.stock)) (sym (no_other_bin s day least b c s.rows.lots))
-            ∙ sym (any_appended (λ (r : StockRow). same_text b r.bin) (stock_returned s day least) (filter (λ r. not (stands_in (stock_returned s day least) r)) s.rows.stock)) ∙ e
+            ∙ sym (list_any-append (λ (r : StockRow). same_text b r.bin) (stock_returned s day least) (filter (λ r. not (stands_in (stock_returned s day least) r)) s.rows.stock)) ∙ e
 
     -- a lot with stock after it is one of the slice, or had stock before
     lots_found : (m : LotId) → in_stock h (stock_on s day least) m ≡ true → find (λ (k : LotRow). is_lot m k.lot) s.rows.lots ≡ lot_row acts m
@@ -335,16 +298,16 @@ module _ (first : ℤ) (acts : List Act) (act : Act) (s : Slice) (slice : IsSlic
           | false ↦ λ c. before.lots.found m (λ i. two.0 i && any_kept (λ (r : StockRow). is_lot m r.lot) (λ r. not (stands_in (stock_returned s day least) r)) s.rows.stock (behind c two.1) i)
         ] refl
       where
-        before : TellsSupplies first acts h s.rows.lots s.rows.recalls s.rows.stock s.rows.bins
+        before : TellsSupplies first acts h s.rows
         before = slice_tells_supplies first acts act s slice says.planned h t
 
         behind : list_any (λ (k : LotRow). is_lot m k.lot) s.rows.lots ≡ false → list_any (λ (r : StockRow). is_lot m r.lot) (stock_on s day least) ≡ true
             → list_any (λ (r : StockRow). is_lot m r.lot) (filter (λ r. not (stands_in (stock_returned s day least) r)) s.rows.stock) ≡ true
         behind c f =
             ap (λ x. x || list_any (λ (r : StockRow). is_lot m r.lot) (filter (λ r. not (stands_in (stock_returned s day least) r)) s.rows.stock)) (sym (no_other_lot s day least m s.rows.lots c))
-            ∙ sym (any_appended (λ (r : StockRow). is_lot m r.lot) (stock_returned s day least) (filter (λ r. not (stands_in (stock_returned s day least) r)) s.rows.stock)) ∙ f
+            ∙ sym (list_any-append (λ (r : StockRow). is_lot m r.lot) (stock_returned s day least) (filter (λ r. not (stands_in (stock_returned s day least) r)) s.rows.stock)) ∙ f
 
-    pub supplies_after : TellsSupplies first after h s.rows.lots s.rows.recalls (stock_on s day least) (bins_with_returns s)
+    pub supplies_after : TellsSupplies first after h (rows_on s day least)
     supplies_after =
         let before = slice_tells_supplies first acts act s slice says.planned h t in
         record {
@@ -363,9 +326,9 @@ module _ (first : ℤ) (acts : List Act) (act : Act) (s : Slice) (slice : IsSlic
   pub out_named : AreNamed first act acts (reserved_put_on s day least) (reserved_gone_on s day least)
   out_named =
       items_replanned (λ (g : List ℕ). g) first acts act s slice says.planned next (gtins_seen s) (items_apart first acts act s slice says day least tells) (items_told first acts act s slice says day least tells)
-      day least tells s.rows.orders s.rows.lines (staged_kept_on s day least) s.rows.urgents s.rows.lots s.rows.recalls (bins_with_returns s) (stock_on s day least) demands_after supplies_after
+      day (rows_on s day least) tells demands_after supplies_after
 
   pub out_put_once : no_two is_share_of (reserved_put_on s day least) ≡ true
   out_put_once =
       items_put_once (λ (g : List ℕ). g) first acts act s slice says.planned next (gtins_seen s) (items_apart first acts act s slice says day least tells) (items_told first acts act s slice says day least tells)
-      day least tells s.rows.orders s.rows.lines (staged_kept_on s day least) s.rows.urgents s.rows.lots s.rows.recalls (bins_with_returns s) (stock_on s day least) demands_after supplies_after
+      day (rows_on s day least) tells demands_after supplies_after

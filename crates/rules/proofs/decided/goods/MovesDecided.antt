@@ -1,23 +1,5 @@
 -- Moves are decided as the machine decides them.
-use Rattle.std.proofs.Common.{◌≡◌, ◌∷◌, refl, List}
-use Rattle.std.specs.Prelude.{ℤ, Result}
-use Rattle.commands.specs.declared.key.Key.{Key}
-use Rattle.commands.specs.declared.command.Movement.{Movement}
-use Rattle.commands.specs.declared.command.Command.TheVariants.{Move}
-use Rattle.shelves.specs.declared.posting.Place.TheVariants.{InBin as ToldInBin}
-use Rattle.machine.specs.Acts.{Act, next_number}
-use Rattle.machine.specs.Postings.{InBin}
-use Rattle.machine.specs.Once.{IsHistory}
-use Rattle.machine.specs.Tables.{tables_of}
-use Rattle.rules.specs.Slices.{IsSlice}
-use Rattle.shelves.specs.PostedChanges.{no_facts, staged_after}
-use Rattle.goods_rules.specs.DecidedMove.{move_seen, move_told, move_changes}
-use Rattle.row_rules.specs.declared.slice.Slice.{Slice}
-use Rattle.row_rules.specs.declared.slice.Change.{Change}
-use Rattle.row_rules.specs.declared.slice.RuleFault.{RuleFault}
-use Rattle.values.specs.Values.{same_text}
-use Rattle.machine.proofs.Tests.{same_text_refl, is_lot_refl, or_first, or_later}
-use Rattle.machine.proofs.histories.Accepted.{room_for_acts}
+use Rattle.rules.proofs.Words.{◌≡◌, ◌∷◌, refl, List, ℤ, Result, Key, Movement, Move, ToldInBin, Act, next_number, InBin, IsHistory, tables_of, IsSlice, no_facts, staged_after, move_seen, move_told, move_changes, Slice, Change, RuleFault, same_text, same_text_refl, is_lot_refl, or_first, or_later, room_for_acts}
 use Rattle.rules.proofs.decided.Decisions.{AreRight, IsChange, plain_same}
 use Rattle.rules.proofs.decided.Posted.{IsOwn, IsPosted, IsPlanned, AreFacts, stays_staged, no_line, posted_once, planned_changed, lots_stay}
 use Rattle.rules.proofs.rows.PostedRows.{each_once, puts_none}

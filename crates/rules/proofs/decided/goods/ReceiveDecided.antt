@@ -1,34 +1,6 @@
 -- Receipts are decided as the machine decides them.
-use Rattle.std.proofs.Common.{◌≡◌, ℕ, ◌≤◌, true, false, ◌&&◌, List, [], ◌∷◌, refl, ap, sym, ◌∙◌, arith}
-use Rattle.std.specs.Prelude.{◌==◌, if◌then◌else◌, ℤ, Result, pos, flat_map, nat_le, length}
-use Rattle.std.proofs.lemmas.Bool.Decides.{nat_tests}
-use Rattle.values.specs.Values.{is_name, is_qty}
-use Rattle.label.specs.Days.{is_day}
-use Rattle.commands.specs.Sound.{is_lot_id}
-use Rattle.commands.specs.declared.limits.TheConstants.{ACTS_MAX}
-use Rattle.commands.specs.declared.key.Key.{Key}
-use Rattle.commands.specs.declared.command.Receipt.{Receipt}
-use Rattle.commands.specs.declared.command.Command.TheVariants.{Receive}
-use Rattle.commands.specs.declared.rows.CardKind.TheVariants.{Receipt as ReceiptCard}
-use Rattle.commands.specs.declared.rows.CardRow.{CardRow}
-use Rattle.commands.specs.declared.rows.StockRow.{StockRow}
-use Rattle.machine.specs.Acts.{Act, next_number}
-use Rattle.machine.specs.Postings.{Supplier, InBin, of_item}
-use Rattle.machine.specs.Standing.{today}
-use Rattle.machine.specs.Cards.{card_lines, delivery_note, lot_units_in_house}
-use Rattle.machine.specs.Once.{IsHistory}
-use Rattle.machine.specs.Tables.{tables_of}
-use Rattle.rules.specs.Slices.{IsSlice}
-use Rattle.row_rules.specs.Seen.{lot_units}
-use Rattle.row_rules.specs.declared.slice.Slice.{Slice}
-use Rattle.row_rules.specs.declared.slice.Change.{Change}
-use Rattle.row_rules.specs.declared.slice.RuleFault.{RuleFault}
-use Rattle.shelves.specs.declared.posting.Place.TheVariants as told
-use Rattle.shelves.specs.PostedChanges.{stock_after, staged_after}
-use Rattle.goods_rules.specs.DecidedReceive.{receive_seen, receive_told, receive_card, receive_facts, receive_changes, lot_rows_after}
-use Rattle.machine.proofs.Tests.{and_both, same_text_refl, is_lot_refl, is_lot_item}
-use Rattle.machine.proofs.histories.Accepted.{room_for_acts}
-use Rattle.machine.proofs.histories.Quantities.{at_least_one}
+use Rattle.rules.proofs.Words.{◌≡◌, ℕ, ◌≤◌, true, false, ◌&&◌, List, [], ◌∷◌, refl, ap, sym, ◌∙◌, arith, ◌==◌, if◌then◌else◌, ℤ, Result, pos, flat_map, nat_le, length, nat_tests, is_name, is_qty, is_day, is_lot_id, ACTS_MAX, Key, Receipt, Receive, ReceiptCard, CardRow, StockRow, Act, next_number, Supplier, InBin, of_item, today, card_lines, delivery_note, lot_units_in_house, IsHistory, tables_of, IsSlice, lot_units, Slice, Change, RuleFault, stock_after, staged_after, receive_seen, receive_told, receive_card, receive_facts, receive_changes, lot_rows_after, and_both, same_text_refl, is_lot_refl, is_lot_item, room_for_acts, at_least_one}
+use Rattle.rules.specs.declared.posting.Place.TheVariants as told
 use Rattle.rules.proofs.rows.LotUnits.{lot_units_told}
 use Rattle.rules.proofs.rows.PostedRows.{each_once}
 use Rattle.rules.proofs.decided.Decisions.{AreRight, IsChange, day_seen, number_same, plain_same}

@@ -1,32 +1,5 @@
 -- A receipt judged by its slice is judged as by the acts.
-use Rattle.std.proofs.Common.{◌≡◌, ℕ, ◌+◌, ◌≤◌, ◌<◌, Bool, true, false, ◌&&◌, not, List, [], ◌∷◌, refl, ap, sym, ◌∙◌, arith}
-use Rattle.std.specs.Prelude.{◌||◌, nat_lt, ℤ}
-use Rattle.values.specs.Values.{same_text}
-use Rattle.values.specs.declared.lot.LotId.{LotId}
-use Rattle.commands.specs.declared.limits.TheConstants.{UNITS_MAX}
-use Rattle.commands.specs.declared.key.Key.{Key}
-use Rattle.commands.specs.declared.command.Receipt.{Receipt}
-use Rattle.commands.specs.declared.command.Command.TheVariants.{Receive}
-use Rattle.commands.specs.declared.refusal.Refusal.TheVariants.{UnknownItem, UnknownBin, OtherExpiry, LotRecalled, LotExpired, OverUnits}
-use borrow.Author.Tests.{ltb-false, ltb-true, lt-ltb, le-ltb}
-use Rattle.machine.specs.Acts.{Act}
-use Rattle.machine.specs.Postings.{Place, Supplier, InBin, Stage, Shipped, WriteOff, in_house, of_item}
-use Rattle.machine.specs.Standing.{is_expired}
-use Rattle.machine.specs.Ledger.{postings}
-use Rattle.machine.specs.Planning.{units_in_house}
-use Rattle.machine.specs.Once.{IsHistory}
-use Rattle.machine.specs.Tables.{tables_of, stock_row, staged_row}
-use Rattle.machine.specs.Touched.{is_touched}
-use Rattle.machine.specs.KeyedRows.{AreRows, LotBin, OrderLot, same_cell, same_share}
-use Rattle.rules.specs.Slices.{IsSlice, ships, plans, names_bin, names_lot, on_named_stage}
-use Rattle.row_rules.specs.Seen.{capped, is_over, stock_units, staged_units}
-use Rattle.goods_rules.specs.DecidedReceive.{receive_seen}
-use Rattle.machine.specs.Verdict.{first_refusal, judgement}
-use Rattle.row_rules.specs.declared.slice.Slice.{Slice}
-use Rattle.machine.proofs.Tests.{or_first, same_text_is, same_text_refl, is_lot_refl, and_not_itself}
-use Rattle.machine.proofs.histories.Cells.{without, holds, holds_split}
-use Rattle.machine.proofs.histories.LegalHistories.{legal_history}
-use Rattle.machine.proofs.histories.PlaceRows.{bin_cells, stage_cells, stock_holds, staged_holds}
+use Rattle.rules.proofs.Words.{◌≡◌, ℕ, ◌+◌, ◌≤◌, ◌<◌, Bool, true, false, ◌&&◌, not, List, [], ◌∷◌, refl, ap, sym, ◌∙◌, arith, ◌||◌, nat_lt, ℤ, ltb-false, ltb-true, lt-ltb, le-ltb, same_text, LotId, UNITS_MAX, Key, Receipt, Receive, UnknownItem, UnknownBin, OtherExpiry, LotRecalled, LotExpired, OverUnits, Act, Place, Supplier, InBin, Stage, Shipped, WriteOff, in_house, of_item, is_expired, postings, units_in_house, IsHistory, tables_of, stock_row, staged_row, is_touched, AreRows, LotBin, OrderLot, same_cell, same_share, IsSlice, ships, plans, names_bin, names_lot, on_named_stage, capped, is_over, stock_units, staged_units, receive_seen, first_refusal, judgement, Slice, or_first, same_text_is, same_text_refl, is_lot_refl, and_not_itself, without, holds, holds_split, legal_history, bin_cells, stage_cells, stock_holds, staged_holds}
 use Rattle.rules.proofs.decided.Decisions.{day_seen}
 use Rattle.rules.proofs.rows.Planned.{no_pick}
 use Rattle.rules.proofs.rows.SliceDemands.{staged_touched}

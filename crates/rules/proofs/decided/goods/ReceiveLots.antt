@@ -1,24 +1,5 @@
 -- The row of the lot that is received, which a receipt puts if the lot is new.
-use Rattle.std.proofs.Common.{◌≡◌, Bool, true, false, ◌&&◌, List, [], ◌∷◌, ◌++◌, refl, ap, sym, subst, ◌∙◌}
-use Rattle.std.specs.Prelude.{◌||◌, if◌then◌else◌, ℤ, Option, Some, None, find, is_some, option_map}
-use Rattle.values.specs.declared.lot.LotId.{LotId}
-use Rattle.commands.specs.declared.key.Key.{Key}
-use Rattle.commands.specs.declared.command.Receipt.{Receipt}
-use Rattle.commands.specs.declared.command.Command.TheVariants.{Receive}
-use Rattle.commands.specs.declared.rows.LotRow.{LotRow}
-use Rattle.machine.specs.Acts.{Act, next_number}
-use Rattle.machine.specs.Postings.{is_lot}
-use Rattle.machine.specs.Standing.{KnownLot, lots, lot_known, is_held}
-use Rattle.machine.specs.Once.{IsHistory}
-use Rattle.machine.specs.Tables.{tables_of, lot_row}
-use Rattle.machine.specs.KeyedRows.{AreRows, no_two}
-use Rattle.rules.specs.Slices.{IsSlice, changed, unless_put, in_bins, on_stages}
-use Rattle.row_rules.specs.Seen.{lot_seen}
-use Rattle.goods_rules.specs.DecidedReceive.{lots_if_new, new_lot_row, lots_put, lot_rows_after}
-use Rattle.row_rules.specs.declared.slice.Slice.{Slice}
-use Rattle.machine.proofs.Tests.{or_first, same_text_refl, is_lot_is, is_lot_refl, is_lot_turned}
-use Rattle.machine.proofs.histories.Accepted.{room_for_acts}
-use Rattle.machine.proofs.histories.Lots.{not_held}
+use Rattle.rules.proofs.Words.{◌≡◌, Bool, true, false, ◌&&◌, List, [], ◌∷◌, ◌++◌, refl, ap, sym, subst, ◌∙◌, ◌||◌, if◌then◌else◌, ℤ, Option, Some, None, find, is_some, option_map, LotId, Key, Receipt, Receive, LotRow, Act, next_number, is_lot, KnownLot, lots, lot_known, is_held, IsHistory, tables_of, lot_row, AreRows, no_two, IsSlice, changed, unless_put, in_bins, on_stages, lot_seen, lots_if_new, new_lot_row, lots_put, lot_rows_after, Slice, or_first, same_text_refl, is_lot_is, is_lot_refl, is_lot_turned, room_for_acts, not_held}
 use Rattle.rules.proofs.rows.AfterRows.{loosened, rows_added, put_one}
 use Rattle.rules.proofs.rows.SliceSupplies.{slice_lots, is_wanted}
 use Rattle.rules.proofs.rows.SliceTells.{found_lot}

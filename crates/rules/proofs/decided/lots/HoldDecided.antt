@@ -1,28 +1,5 @@
 -- Holds are decided as the machine decides them.
-use Rattle.std.proofs.Common.{◌≡◌, ℕ, true, false, ◌&&◌, not, List, [], ◌∷◌, refl, ap, sym, ◌∙◌}
-use Rattle.std.specs.Prelude.{ℤ, Result, Some, find, option_map, if◌then◌else◌}
-use Rattle.values.specs.Values.{same_text}
-use Rattle.values.specs.declared.lot.LotId.{LotId}
-use Rattle.commands.specs.declared.key.Key.{Key}
-use Rattle.commands.specs.declared.refusal.Refusal.TheVariants.{UnknownItem, UnknownLot, LotRecalled, LotHeld}
-use Rattle.commands.specs.declared.command.Command.TheVariants.{Hold}
-use Rattle.commands.specs.declared.rows.LotRow.{LotRow}
-use Rattle.commands.specs.declared.rows.ReservedRow.{ReservedRow}
-use Rattle.machine.specs.Acts.{Act, gathered}
-use Rattle.machine.specs.Postings.{is_lot}
-use Rattle.machine.specs.Standing.{Holding, hold_in, says_held, is_held, is_recalled, is_expired, least_expiry}
-use Rattle.machine.specs.Verdict.{first_refusal, judgement}
-use Rattle.machine.specs.Once.{IsHistory}
-use Rattle.machine.specs.Tables.{tables_of, lot_row, meta_row, reserved_row}
-use Rattle.machine.specs.KeyedRows.{AreRows}
-use Rattle.rules.specs.Slices.{IsSlice, applied, tables_but_repeats, changed}
-use Rattle.row_rules.specs.Seen.{lot_seen, none_put, none_dropped}
-use Rattle.lot_rules.specs.DecidedHold.{hold_seen, hold_replanned, hold_changes, with_hold, lot_rows_with_hold, lot_put, staged_kept, staged_returned, stock_with_returned, returned_put, bins_with_returns, returned_reply}
-use Rattle.row_rules.specs.declared.slice.Slice.{Slice}
-use Rattle.row_rules.specs.declared.slice.Change.{Change}
-use Rattle.row_rules.specs.declared.slice.RuleFault.{RuleFault}
-use Rattle.machine.proofs.Tests.{same_text_refl, same_text_turned, is_lot_refl, is_lot_turned}
-use Rattle.machine.proofs.histories.Accepted.{room_for_acts}
+use Rattle.rules.proofs.Words.{◌≡◌, ℕ, true, false, ◌&&◌, not, List, [], ◌∷◌, refl, ap, sym, ◌∙◌, ℤ, Result, Some, find, option_map, if◌then◌else◌, same_text, LotId, Key, UnknownItem, UnknownLot, LotRecalled, LotHeld, Hold, LotRow, ReservedRow, Act, gathered, is_lot, Holding, hold_in, says_held, is_held, is_recalled, is_expired, least_expiry, first_refusal, judgement, IsHistory, tables_of, lot_row, meta_row, reserved_row, AreRows, IsSlice, applied, tables_but_repeats, changed, lot_seen, none_put, none_dropped, hold_seen, hold_replanned, hold_changes, with_hold, lot_rows_with_hold, lot_put, staged_returned, returned_put, returned_reply, Slice, Change, RuleFault, same_text_refl, same_text_turned, is_lot_refl, is_lot_turned, room_for_acts, MakesUnshippable, order_row_still, line_row_still, shipline_row_still, card_row_still, Rows, rows_after_return}
 use Rattle.rules.proofs.rows.AfterRows.{loosened}
 use Rattle.rules.proofs.rows.MappedRows.{rows_mapped}
 use Rattle.rules.proofs.rows.LotTold.{lot_known_told}
@@ -30,10 +7,10 @@ use Rattle.rules.proofs.rows.LotStateTold.{held_told}
 use Rattle.rules.proofs.rows.HeldLots.{lot_put_once, held_after, held_at}
 use Rattle.rules.proofs.rows.SliceTells.{item_told, recall_told, found_lot}
 use Rattle.rules.proofs.rows.SliceSupplies.{slice_tells_supplies, slice_lots, is_wanted}
+use Rattle.rules.proofs.rows.DemandsTold.{TellsDemands}
 use Rattle.rules.proofs.rows.SuppliesTold.{TellsSupplies}
 use Rattle.rules.proofs.rows.TableSteps.{same_tables, AreNamed, names_changed, reserved_changed}
 use Rattle.rules.proofs.rows.replanned.OneItem.{TouchesOnly, replanned, replanned_once}
-use Rattle.machine.proofs.histories.UnshippableLots.{MakesUnshippable, order_row_still, line_row_still, shipline_row_still, card_row_still}
 use Rattle.rules.proofs.rows.ReturnedRows.{returned_once, returned_stock_at, returned_staged_at, demands_after, supplies_after, returned_text}
 use Rattle.rules.proofs.rows.DaysAsked.{earliest_told}
 use Rattle.rules.proofs.decided.Decisions.{AreRight, IsChange, meta_same}
@@ -101,16 +78,20 @@ module _ (first : ℤ) (acts : List Act) (key : Key) (l : LotId) (s : Slice) (sl
   }
 
   module _ (next : IsHistory first (record { key = key; command = Hold l } ∷ acts)) where
-    supplies_are : TellsSupplies first after g (lot_rows_with_hold s l true) s.rows.recalls (stock_with_returned s l) (bins_with_returns s)
+    abbrev rows : Rows
+    rows = rows_after_return s l (lot_rows_with_hold s l true) s.rows.recalls
+
+    demands_are : TellsDemands first after g rows
+    demands_are = demands_after first acts act l s slice refl named makes next (lot_rows_with_hold s l true) s.rows.recalls
+
+    supplies_are : TellsSupplies first after g rows
     supplies_are = supplies_after first acts act l s slice refl named makes next (lot_rows_with_hold s l true) s.rows.recalls lots_after (slice_tells_supplies first acts act s slice refl g touched).recalls
 
     only : TouchesOnly first acts act s slice refl next g
     only = record { own = touched; others = λ h e. same_text_turned h g ∙ e }
 
     are_named : AreNamed first act acts puts drops
-    are_named =
-        replanned first acts act s slice refl next g only s.meta.day s.rows.least (earliest_told first acts act s slice refl next.0 g only.own) s.rows.orders s.rows.lines (staged_kept s l) s.rows.urgents (lot_rows_with_hold s l true) s.rows.recalls (bins_with_returns s) (stock_with_returned s l)
-        (demands_after first acts act l s slice refl named makes next) supplies_are
+    are_named = replanned first acts act s slice refl next g only s.meta.day rows (earliest_told first acts act s slice refl next.0 g only.own) demands_are supplies_are
 
     hold_step : ((o : List ℕ) (m : LotId) → changed (λ (q : ReservedRow). same_text o q.order && is_lot m q.lot) puts drops (reserved_row first acts o m) ≡ reserved_row first after o m)
         → applied hold_change (tables_of first acts) ≡ tables_but_repeats first act acts
@@ -136,9 +117,7 @@ module _ (first : ℤ) (acts : List Act) (key : Key) (l : LotId) (s : Slice) (sl
             orders = refl;
             lines = refl;
             staged = refl;
-            reserved =
-                replanned_once first acts act s slice refl next g only s.meta.day s.rows.least (earliest_told first acts act s slice refl next.0 g only.own) s.rows.orders s.rows.lines (staged_kept s l) s.rows.urgents (lot_rows_with_hold s l true) s.rows.recalls (bins_with_returns s) (stock_with_returned s l)
-                (demands_after first acts act l s slice refl named makes next) supplies_are;
+            reserved = replanned_once first acts act s slice refl next g only s.meta.day rows (earliest_told first acts act s slice refl next.0 g only.own) demands_are supplies_are;
             shipments = refl;
             shiplines = refl;
             cards = refl;

@@ -1,35 +1,11 @@
 -- Recalls are decided as the machine decides them.
-use Rattle.std.proofs.Common.{◌≡◌, ℕ, Bool, true, false, ◌&&◌, not, List, [], ◌∷◌, refl, ap, ◌∙◌}
-use Rattle.std.specs.Prelude.{ℤ, Result, Option, Some, find, option_map, is_some, if◌then◌else◌}
-use Rattle.values.specs.Values.{same_text}
-use Rattle.values.specs.declared.lot.LotId.{LotId}
-use Rattle.commands.specs.declared.key.Key.{Key}
-use Rattle.commands.specs.declared.refusal.Refusal.TheVariants.{UnknownItem, AlreadyRecalled}
-use Rattle.commands.specs.declared.command.Command.TheVariants.{Recall}
-use Rattle.commands.specs.declared.rows.LotRow.{LotRow}
-use Rattle.commands.specs.declared.rows.RecallRow.{RecallRow}
-use Rattle.commands.specs.declared.rows.ReservedRow.{ReservedRow}
-use Rattle.machine.specs.Acts.{Act, next_number}
-use Rattle.machine.specs.Postings.{is_lot, of_item}
-use Rattle.machine.specs.Standing.{Recalling, recalling, is_held, is_recalled, is_expired, least_expiry}
-use Rattle.machine.specs.Verdict.{first_refusal, judgement}
-use Rattle.machine.specs.Once.{IsHistory}
-use Rattle.machine.specs.Tables.{tables_of, lot_row, recall_row, meta_row, reserved_row}
-use Rattle.machine.specs.KeyedRows.{AreRows}
-use Rattle.rules.specs.Slices.{IsSlice, applied, tables_but_repeats, changed}
-use Rattle.row_rules.specs.Seen.{none_put, none_dropped}
-use Rattle.lot_rules.specs.DecidedHold.{recall_seen, recall_replanned, recall_changes, new_recall_row, recall_rows_after, staged_kept, staged_returned, stock_with_returned, returned_put, bins_with_returns, returned_reply}
-use Rattle.row_rules.specs.declared.slice.Slice.{Slice}
-use Rattle.row_rules.specs.declared.slice.Change.{Change}
-use Rattle.row_rules.specs.declared.slice.RuleFault.{RuleFault}
-use Rattle.machine.proofs.Tests.{and_false, same_text_refl, same_text_turned, is_lot_refl, is_lot_turned}
-use Rattle.machine.proofs.histories.Accepted.{room_for_acts}
+use Rattle.rules.proofs.Words.{◌≡◌, ℕ, Bool, true, false, ◌&&◌, not, List, [], ◌∷◌, refl, ap, ◌∙◌, ℤ, Result, Option, Some, find, option_map, is_some, if◌then◌else◌, same_text, LotId, Key, UnknownItem, AlreadyRecalled, Recall, LotRow, RecallRow, ReservedRow, Act, next_number, is_lot, of_item, Recalling, recalling, is_held, is_recalled, is_expired, least_expiry, first_refusal, judgement, IsHistory, tables_of, lot_row, recall_row, meta_row, reserved_row, AreRows, IsSlice, applied, tables_but_repeats, changed, none_put, none_dropped, recall_seen, recall_replanned, recall_changes, new_recall_row, recall_rows_after, staged_returned, returned_put, returned_reply, Slice, Change, RuleFault, and_false, same_text_refl, same_text_turned, is_lot_refl, is_lot_turned, room_for_acts, MakesUnshippable, order_row_still, line_row_still, shipline_row_still, card_row_still, Rows, rows_after_return}
 use Rattle.rules.proofs.rows.SliceTells.{item_told, recall_told}
 use Rattle.rules.proofs.rows.SliceSupplies.{slice_tells_supplies, slice_lots, is_wanted}
+use Rattle.rules.proofs.rows.DemandsTold.{TellsDemands}
 use Rattle.rules.proofs.rows.SuppliesTold.{TellsSupplies}
 use Rattle.rules.proofs.rows.TableSteps.{same_tables, AreNamed, names_changed, reserved_changed, put_found}
 use Rattle.rules.proofs.rows.replanned.OneItem.{TouchesOnly, replanned, replanned_once}
-use Rattle.machine.proofs.histories.UnshippableLots.{MakesUnshippable, order_row_still, line_row_still, shipline_row_still, card_row_still}
 use Rattle.rules.proofs.rows.ReturnedRows.{returned_once, returned_stock_at, returned_staged_at, demands_after, supplies_after, returned_text}
 use Rattle.rules.proofs.rows.DaysAsked.{earliest_told}
 use Rattle.rules.proofs.decided.Decisions.{AreRight, IsChange, number_same, meta_same}
@@ -112,16 +88,20 @@ module _ (first : ℤ) (acts : List Act) (key : Key) (l : LotId) (s : Slice) (sl
     lots_still : AreRows is_lot (λ (r : LotRow). r.lot) (is_wanted (Recall l) s.rows g) (λ m. true) (lot_row after) s.rows.lots
     lots_still = slice_lots first acts act s slice refl g touched
 
-    supplies_are : TellsSupplies first after g s.rows.lots (recall_rows_after s l) (stock_with_returned s l) (bins_with_returns s)
+    abbrev rows : Rows
+    rows = rows_after_return s l s.rows.lots (recall_rows_after s l)
+
+    demands_are : TellsDemands first after g rows
+    demands_are = demands_after first acts act l s slice refl named makes next s.rows.lots (recall_rows_after s l)
+
+    supplies_are : TellsSupplies first after g rows
     supplies_are = supplies_after first acts act l s slice refl named makes next s.rows.lots (recall_rows_after s l) lots_still recalls_after
 
     only : TouchesOnly first acts act s slice refl next g
     only = record { own = touched; others = λ h e. same_text_turned h g ∙ e }
 
     are_named : AreNamed first act acts puts drops
-    are_named =
-        replanned first acts act s slice refl next g only s.meta.day s.rows.least (earliest_told first acts act s slice refl next.0 g only.own) s.rows.orders s.rows.lines (staged_kept s l) s.rows.urgents s.rows.lots (recall_rows_after s l) (bins_with_returns s) (stock_with_returned s l)
-        (demands_after first acts act l s slice refl named makes next) supplies_are
+    are_named = replanned first acts act s slice refl next g only s.meta.day rows (earliest_told first acts act s slice refl next.0 g only.own) demands_are supplies_are
 
     recall_step : ((o : List ℕ) (m : LotId) → changed (λ (q : ReservedRow). same_text o q.order && is_lot m q.lot) puts drops (reserved_row first acts o m) ≡ reserved_row first after o m)
         → applied recall_change (tables_of first acts) ≡ tables_but_repeats first act acts
@@ -150,9 +130,7 @@ module _ (first : ℤ) (acts : List Act) (key : Key) (l : LotId) (s : Slice) (sl
             orders = refl;
             lines = refl;
             staged = refl;
-            reserved =
-                replanned_once first acts act s slice refl next g only s.meta.day s.rows.least (earliest_told first acts act s slice refl next.0 g only.own) s.rows.orders s.rows.lines (staged_kept s l) s.rows.urgents s.rows.lots (recall_rows_after s l) (bins_with_returns s) (stock_with_returned s l)
-                (demands_after first acts act l s slice refl named makes next) supplies_are;
+            reserved = replanned_once first acts act s slice refl next g only s.meta.day rows (earliest_told first acts act s slice refl next.0 g only.own) demands_are supplies_are;
             shipments = refl;
             shiplines = refl;
             cards = refl;

@@ -1,27 +1,5 @@
 -- Releases are decided as the machine decides them.
-use Rattle.std.proofs.Common.{◌≡◌, ℕ, true, false, not, List, [], ◌∷◌, refl, sym}
-use Rattle.std.specs.Prelude.{ℤ, Result, Some, None, find, option_map, if◌then◌else◌}
-use Rattle.values.specs.Values.{same_text}
-use Rattle.values.specs.declared.lot.LotId.{LotId}
-use Rattle.commands.specs.declared.key.Key.{Key}
-use Rattle.commands.specs.declared.refusal.Refusal.TheVariants.{UnknownItem, UnknownLot, LotRecalled, LotNotHeld}
-use Rattle.commands.specs.declared.command.Command.TheVariants.{Release}
-use Rattle.commands.specs.declared.rows.LotRow.{LotRow}
-use Rattle.machine.specs.Acts.{Act, gathered}
-use Rattle.machine.specs.Postings.{is_lot}
-use Rattle.machine.specs.Standing.{Holding, hold_in, says_held, is_held}
-use Rattle.machine.specs.Verdict.{first_refusal, judgement}
-use Rattle.machine.specs.Once.{IsHistory}
-use Rattle.machine.specs.Tables.{tables_of, lot_row}
-use Rattle.machine.specs.KeyedRows.{AreRows}
-use Rattle.rules.specs.Slices.{IsSlice, changed}
-use Rattle.row_rules.specs.Seen.{lot_seen}
-use Rattle.lot_rules.specs.DecidedHold.{release_seen, release_facts, release_changes, with_hold, lot_rows_with_hold, lot_put}
-use Rattle.row_rules.specs.declared.slice.Slice.{Slice}
-use Rattle.row_rules.specs.declared.slice.Change.{Change}
-use Rattle.row_rules.specs.declared.slice.RuleFault.{RuleFault}
-use Rattle.machine.proofs.Tests.{same_text_refl, is_lot_refl}
-use Rattle.machine.proofs.histories.Accepted.{room_for_acts}
+use Rattle.rules.proofs.Words.{◌≡◌, ℕ, true, false, not, List, [], ◌∷◌, refl, sym, ℤ, Result, Some, None, find, option_map, if◌then◌else◌, same_text, LotId, Key, UnknownItem, UnknownLot, LotRecalled, LotNotHeld, Release, LotRow, Act, gathered, is_lot, Holding, hold_in, says_held, is_held, first_refusal, judgement, IsHistory, tables_of, lot_row, AreRows, IsSlice, changed, lot_seen, release_seen, release_facts, release_changes, with_hold, lot_rows_with_hold, lot_put, Slice, Change, RuleFault, same_text_refl, is_lot_refl, room_for_acts}
 use Rattle.rules.proofs.rows.AfterRows.{loosened}
 use Rattle.rules.proofs.rows.MappedRows.{rows_mapped}
 use Rattle.rules.proofs.rows.LotTold.{lot_known_told}

@@ -1,26 +1,5 @@
 -- The cancelling of orders is decided as the machine decides it.
-use Rattle.std.proofs.Common.{◌≡◌, ℕ, true, false, List, [], ◌∷◌, refl, ap, ◌∙◌}
-use Rattle.std.specs.Prelude.{ℤ, Option, Some, None, Result, option_map, is_some, nat_le, length}
-use Rattle.values.specs.Values.{same_text}
-use Rattle.commands.specs.declared.limits.TheConstants.{ACTS_MAX}
-use Rattle.commands.specs.declared.key.Key.{Key}
-use Rattle.commands.specs.declared.command.Command.TheVariants.{Cancel}
-use Rattle.commands.specs.declared.rows.OrderRow.{OrderRow}
-use Rattle.machine.specs.Acts.{Act}
-use Rattle.machine.specs.Standing.{Placed, order_named}
-use Rattle.machine.specs.Once.{IsHistory}
-use Rattle.machine.specs.Tables.{tables_of}
-use Rattle.machine.specs.KeyedRows.{no_two}
-use Rattle.rules.specs.Slices.{IsSlice, applied}
-use Rattle.row_rules.specs.Seen.{none_put, none_dropped, plain_reply}
-use Rattle.row_rules.specs.Plans.{is_share_of}
-use Rattle.row_rules.specs.SeenOrders.{order_row_seen, items_seen}
-use Rattle.order_rules.specs.DecidedCancel.{cancelled_row, other_orders, cancel_put, cancel_dropped, cancel_seen, cancel_changes}
-use Rattle.row_rules.specs.declared.slice.Slice.{Slice}
-use Rattle.row_rules.specs.declared.slice.Change.{Change}
-use Rattle.row_rules.specs.declared.slice.RuleFault.{RuleFault}
-use Rattle.machine.proofs.Tests.{same_text_refl}
-use Rattle.machine.proofs.histories.Accepted.{room_for_acts, cancel_accepted}
+use Rattle.rules.proofs.Words.{◌≡◌, ℕ, true, false, List, [], ◌∷◌, refl, ap, ◌∙◌, ℤ, Option, Some, None, Result, option_map, is_some, nat_le, length, same_text, ACTS_MAX, Key, Cancel, OrderRow, Act, Placed, order_named, IsHistory, tables_of, no_two, IsSlice, applied, none_put, none_dropped, plain_reply, is_share_of, order_row_seen, items_seen, cancelled_row, cancel_put, cancel_dropped, cancel_seen, cancel_changes, Slice, Change, RuleFault, same_text_refl, room_for_acts, cancel_accepted, rows_after_cancel}
 use Rattle.rules.proofs.rows.TableSteps.{AreNamed, names_changed, reserved_changed}
 use Rattle.rules.proofs.rows.OrderTold.{found_order_row}
 use Rattle.rules.proofs.rows.OrderItems.{items_told, items_apart}
@@ -44,14 +23,12 @@ module _ (first : ℤ) (acts : List Act) (key : Key) (o : List ℕ) (s : Slice) 
   are_named : AreNamed first act acts (cancel_put s o) (cancel_dropped s o)
   are_named =
       items_replanned (λ (g : List ℕ). g) first acts act s slice refl next (items_seen s o) (items_apart first acts act s slice refl o (same_text_refl o)) (items_told first acts act s slice refl o (same_text_refl o))
-      s.meta.day s.rows.least (earliest_told first acts act s slice refl next.0) (other_orders s o) s.rows.lines s.rows.staged s.rows.urgents s.rows.lots s.rows.recalls s.rows.bins s.rows.stock
-      (demands_after first acts key o s slice) (supplies_after first acts key o s slice)
+      s.meta.day (rows_after_cancel s o) (earliest_told first acts act s slice refl next.0) (demands_after first acts key o s slice) (supplies_after first acts key o s slice)
 
   put_once : no_two is_share_of (cancel_put s o) ≡ true
   put_once =
       items_put_once (λ (g : List ℕ). g) first acts act s slice refl next (items_seen s o) (items_apart first acts act s slice refl o (same_text_refl o)) (items_told first acts act s slice refl o (same_text_refl o))
-      s.meta.day s.rows.least (earliest_told first acts act s slice refl next.0) (other_orders s o) s.rows.lines s.rows.staged s.rows.urgents s.rows.lots s.rows.recalls s.rows.bins s.rows.stock
-      (demands_after first acts key o s slice) (supplies_after first acts key o s slice)
+      s.meta.day (rows_after_cancel s o) (earliest_told first acts act s slice refl next.0) (demands_after first acts key o s slice) (supplies_after first acts key o s slice)
 
   module _ (p : Placed) (named : order_named acts o ≡ Some p) where
     -- the order row put is that of the act

@@ -1,17 +1,5 @@
 -- The cancelling of an order judged by its slice is judged as by the acts.
-use Rattle.std.proofs.Common.{◌≡◌, ℕ, not, List, [], ◌∷◌, refl}
-use Rattle.std.specs.Prelude.{ℤ}
-use Rattle.commands.specs.declared.key.Key.{Key}
-use Rattle.commands.specs.declared.command.Command.TheVariants.{Cancel}
-use Rattle.commands.specs.declared.refusal.Refusal.TheVariants.{UnknownOrder, OrderClosed, StillStaged}
-use Rattle.machine.specs.Acts.{Act}
-use Rattle.machine.specs.Once.{IsHistory}
-use Rattle.machine.specs.Tables.{tables_of}
-use Rattle.rules.specs.Slices.{IsSlice}
-use Rattle.machine.specs.Verdict.{first_refusal, judgement}
-use Rattle.order_rules.specs.DecidedCancel.{cancel_seen}
-use Rattle.row_rules.specs.declared.slice.Slice.{Slice}
-use Rattle.machine.proofs.Tests.{same_text_refl}
+use Rattle.rules.proofs.Words.{◌≡◌, ℕ, not, List, [], ◌∷◌, refl, ℤ, Key, Cancel, UnknownOrder, OrderClosed, StillStaged, Act, IsHistory, tables_of, IsSlice, first_refusal, judgement, cancel_seen, Slice, same_text_refl}
 use Rattle.rules.proofs.rows.OrderTold.{order_told, open_told, staged_for_order_told}
 
 module _ (first : ℤ) (acts : List Act) (key : Key) (o : List ℕ) (s : Slice)

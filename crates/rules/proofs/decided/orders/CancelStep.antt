@@ -1,23 +1,5 @@
 -- The change of an order that is cancelled takes the tables to those with the act, if its reserved rows do.
-use Rattle.std.proofs.Common.{◌≡◌, ℕ, true, false, ◌&&◌, List, [], ◌∷◌, refl, ap, sym, ◌∙◌}
-use Rattle.std.specs.Prelude.{◌||◌, if◌then◌else◌, ℤ, Option, Some, None, option_map}
-use Rattle.values.specs.Values.{same_text}
-use Rattle.values.specs.declared.lot.LotId.{LotId}
-use Rattle.commands.specs.declared.key.Key.{Key}
-use Rattle.commands.specs.declared.command.Command.TheVariants.{Cancel}
-use Rattle.commands.specs.declared.rows.OrderState.TheVariants.{Open, Done, Cancelled}
-use Rattle.commands.specs.declared.rows.OrderRow.{OrderRow}
-use Rattle.commands.specs.declared.rows.ReservedRow.{ReservedRow}
-use Rattle.machine.specs.Acts.{Act}
-use Rattle.machine.specs.Postings.{is_lot}
-use Rattle.machine.specs.Standing.{Placed, orders, order_named, is_cancelled}
-use Rattle.machine.specs.Planning.{order_state, is_open, is_open_state, is_shipped_in_full}
-use Rattle.machine.specs.Tables.{tables_of, meta_row, order_row, reserved_row}
-use Rattle.rules.specs.Slices.{applied, tables_but_repeats, changed, unless_put}
-use Rattle.row_rules.specs.Seen.{none_put, none_dropped}
-use Rattle.row_rules.specs.declared.slice.Change.{Change}
-use Rattle.machine.proofs.Tests.{same_text_is, same_text_refl}
-use Rattle.machine.proofs.histories.Orders.{found_order}
+use Rattle.rules.proofs.Words.{◌≡◌, ℕ, true, false, ◌&&◌, List, [], ◌∷◌, refl, ap, sym, ◌∙◌, ◌||◌, if◌then◌else◌, ℤ, Option, Some, None, option_map, same_text, LotId, Key, Cancel, Open, Done, Cancelled, OrderRow, ReservedRow, Act, is_lot, Placed, orders, order_named, is_cancelled, order_state, is_open, is_open_state, is_shipped_in_full, tables_of, meta_row, order_row, reserved_row, applied, tables_but_repeats, changed, unless_put, none_put, none_dropped, Change, same_text_is, same_text_refl, found_order}
 use Rattle.rules.proofs.rows.TableSteps.{same_tables}
 
 module _ (first : ℤ) (acts : List Act) (key : Key) (o : List ℕ) where

@@ -1,21 +1,5 @@
 -- The rows of a slice without the order that is cancelled tell the plan of each of its items after the act.
-use Rattle.std.proofs.Common.{◌≡◌, ℕ, true, false, ◌&&◌, not, List, ◌∷◌, refl, ap, sym, ◌∙◌}
-use Rattle.std.specs.Prelude.{ℤ}
-use Rattle.values.specs.Values.{same_text}
-use Rattle.commands.specs.declared.key.Key.{Key}
-use Rattle.commands.specs.declared.command.Command.TheVariants.{Cancel}
-use Rattle.commands.specs.declared.rows.OrderRow.{OrderRow}
-use Rattle.commands.specs.declared.rows.LineRow.{LineRow}
-use Rattle.machine.specs.Acts.{Act}
-use Rattle.machine.specs.Standing.{has_line}
-use Rattle.machine.specs.Planning.{is_open}
-use Rattle.machine.specs.Tables.{tables_of, order_row, line_row}
-use Rattle.machine.specs.Touched.{is_touched}
-use Rattle.machine.specs.KeyedRows.{AreRows, same_line}
-use Rattle.rules.specs.Slices.{IsSlice}
-use Rattle.order_rules.specs.DecidedCancel.{other_orders}
-use Rattle.row_rules.specs.declared.slice.Slice.{Slice}
-use Rattle.machine.proofs.Tests.{and_both, not_true, same_text_is, same_text_turned}
+use Rattle.rules.proofs.Words.{◌≡◌, ℕ, true, false, ◌&&◌, not, List, ◌∷◌, refl, ap, sym, ◌∙◌, ℤ, same_text, Key, Cancel, OrderRow, LineRow, Act, has_line, is_open, tables_of, order_row, line_row, is_touched, AreRows, same_line, IsSlice, other_orders, Slice, and_both, not_true, same_text_is, same_text_turned, rows_after_cancel}
 use Rattle.rules.proofs.rows.AfterRows.{loosened}
 use Rattle.rules.proofs.rows.KeptRows.{kept_rows}
 use Rattle.rules.proofs.rows.DemandsTold.{TellsDemands}
@@ -32,7 +16,7 @@ module _ (first : ℤ) (acts : List Act) (key : Key) (o : List ℕ) (s : Slice) 
   abbrev after : List Act
   after = act ∷ acts
 
-  before : TellsDemands first acts g s.rows.orders s.rows.lines s.rows.staged s.rows.urgents
+  before : TellsDemands first acts g s.rows
   before = slice_tells_demands first acts act s slice refl g touched
 
   -- an order that is open after the act is another, and was open
@@ -61,10 +45,10 @@ module _ (first : ℤ) (acts : List Act) (key : Key) (o : List ℕ) (s : Slice) 
       (λ k. line_row first acts k.0 k.1) (λ k. line_row first after k.0 k.1) s.rows.lines
       (λ k e. let two = and_both (is_open first after k.0) (same_text g k.1) e in (λ i. was_open k.0 two.0 i && two.1 i)) (λ k e. e) (λ k. refl) before.lines
 
-  pub demands_after : TellsDemands first after g (other_orders s o) s.rows.lines s.rows.staged s.rows.urgents
+  pub demands_after : TellsDemands first after g (rows_after_cancel s o)
   demands_after = record { orders = orders_after; lines = lines_after; staged = before.staged; urgents = λ q e. before.urgents q (few q e).0 }
 
-  pub supplies_after : TellsSupplies first after g s.rows.lots s.rows.recalls s.rows.stock s.rows.bins
+  pub supplies_after : TellsSupplies first after g (rows_after_cancel s o)
   supplies_after =
       let same = slice_tells_supplies first acts act s slice refl g touched in
       record { lots = same.lots; recalls = same.recalls; stock = same.stock; bins = same.bins }

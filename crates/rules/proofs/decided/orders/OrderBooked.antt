@@ -1,33 +1,5 @@
 -- What the rows of an order's slice tell of its lines: the plan in which a line is booked last has its rows of the plan after the act.
-use Rattle.std.proofs.Common.{◌≡◌, ℕ, ◌+◌, ◌-◌, ◌≤◌, min, true, false, List, [], ◌∷◌, ◌++◌, refl, ap, sym, ◌∙◌, arith}
-use Rattle.std.specs.Prelude.{ℤ, filter}
-use Rattle.values.specs.Values.{same_text}
-use Rattle.commands.specs.declared.limits.TheConstants.{UNITS_MAX}
-use Rattle.commands.specs.declared.key.Key.{Key}
-use Rattle.commands.specs.declared.command.OrderLine.{OrderLine}
-use Rattle.commands.specs.declared.command.NewOrder.{NewOrder}
-use Rattle.commands.specs.declared.command.Command.TheVariants.{Order}
-use Rattle.plan.specs.declared.TheConstants.{SUM_MAX}
-use Rattle.plan.specs.declared.Demand.{Demand}
-use Rattle.plan.specs.declared.Supply.{Supply}
-use Rattle.plan.specs.declared.Row.{Row}
-use Rattle.plan.specs.Overlap.{plan_rows, rows_from, demand_total, reserved_for}
-use Rattle.plan.proofs.Laying.{plan_rows-append}
-use Rattle.plan.proofs.Nothing.{same_plan}
-use Rattle.machine.specs.Acts.{Act, next_number}
-use Rattle.machine.specs.Standing.{least_expiry}
-use Rattle.machine.specs.Planning.{demands, supplies, plan}
-use Rattle.machine.specs.Once.{IsHistory}
-use Rattle.machine.specs.Tables.{tables_of}
-use Rattle.machine.specs.Touched.{is_touched}
-use Rattle.rules.specs.Slices.{IsSlice}
-use Rattle.row_rules.specs.Seen.{capped, number_seen, staged_units}
-use Rattle.row_rules.specs.Plans.{supplies_seen, supplies_within, plan_within, named_rows}
-use Rattle.row_rules.proofs.Cutting.{plan_of_cut}
-use Rattle.order_rules.specs.Booked.{needs_seen, plan_booked, line_put}
-use Rattle.order_rules.specs.DecidedOrder.{new_order_row}
-use Rattle.row_rules.specs.declared.slice.Slice.{Slice}
-use Rattle.machine.proofs.histories.PlanRows.{unequal_back}
+use Rattle.rules.proofs.Words.{◌≡◌, ℕ, ◌+◌, ◌-◌, ◌≤◌, min, true, false, List, [], ◌∷◌, ◌++◌, refl, ap, sym, ◌∙◌, arith, ℤ, filter, same_text, UNITS_MAX, Key, OrderLine, NewOrder, Order, SUM_MAX, Demand, Supply, Row, plan_rows, rows_from, demand_total, reserved_for, plan_rows-append, same_plan, Act, next_number, least_expiry, demands, supplies, plan, IsHistory, tables_of, is_touched, IsSlice, capped, number_seen, staged_units, supplies_within, plan_within, named_rows, plan_of_cut, needs_seen, plan_booked, line_put, new_order_row, Slice, unequal_back, supplies_in}
 use Rattle.rules.proofs.rows.OpenUnits.{rows_tell_open_units}
 use Rattle.rules.proofs.rows.NeedsTold.{rows_tell_needs, stages_within_limit}
 use Rattle.rules.proofs.rows.SliceDemands.{slice_tells_demands}
@@ -72,7 +44,7 @@ module _ (first : ℤ) (acts : List Act) (key : Key) (o : NewOrder) (s : Slice) 
   own_rows = line_rows first acts key o next (is_new first acts key o false s slice next) l alone
 
   abbrev offered : List Supply
-  offered = supplies_seen g (least_expiry first acts g) s.rows.recalls s.rows.bins s.rows.stock s.rows.lots
+  offered = supplies_in g (least_expiry first acts g) s.rows
 
   abbrev staged : ℕ
   staged = staged_units g s.rows.staged
@@ -81,18 +53,18 @@ module _ (first : ℤ) (acts : List Act) (key : Key) (o : NewOrder) (s : Slice) 
   needs_told =
       let tells = slice_tells_demands first acts act s slice refl g touched in
       ap (λ n. capped n - capped staged)
-      (rows_tell_open_units first acts next.0 g s.rows.orders s.rows.lines s.rows.staged s.rows.urgents tells ∙ sym (rows_tell_needs first acts next.0 g s.rows.orders s.rows.lines s.rows.staged s.rows.urgents tells))
+      (rows_tell_open_units first acts next.0 g s.rows tells ∙ sym (rows_tell_needs first acts next.0 g s.rows tells))
 
   booked_is : plan_booked s l ≡ plan_rows (together ∷ []) (supplies first acts g) ++ own_rows
   booked_is =
       let tells = slice_tells_supplies first acts act s slice refl g touched in
       let start : wanted + 0 ≡ wanted = omega arith in
       (λ i. plan_within (record { booking = 0; need = needs_told i } ∷ record { booking = number_is first acts key o false s slice next i; need = l.qty } ∷ [])
-      (supplies_seen g (earliest_told first acts act s slice refl next.0 g touched i) s.rows.recalls s.rows.bins s.rows.stock s.rows.lots))
+      (supplies_in g (earliest_told first acts act s slice refl next.0 g touched i) s.rows))
       ∙ needs_same wanted staged (next_number acts) l.qty offered
-      (stages_within_limit first acts next.0 g s.rows.orders s.rows.lines s.rows.staged s.rows.urgents (slice_tells_demands first acts act s slice refl g touched))
-      ∙ plan_of_cut (together ∷ own ∷ []) offered (supplies_within_limit first acts next.0 g s.rows.lots s.rows.recalls s.rows.stock s.rows.bins tells)
-      ∙ same_plan (together ∷ own ∷ []) (together ∷ own ∷ []) offered (supplies first acts g) refl (rows_tell_supplies first acts next.0 g s.rows.lots s.rows.recalls s.rows.stock s.rows.bins tells)
+      (stages_within_limit first acts next.0 g s.rows (slice_tells_demands first acts act s slice refl g touched))
+      ∙ plan_of_cut (together ∷ own ∷ []) offered (supplies_within_limit first acts next.0 g s.rows tells)
+      ∙ same_plan (together ∷ own ∷ []) (together ∷ own ∷ []) offered (supplies first acts g) refl (rows_tell_supplies first acts next.0 g s.rows tells)
       ∙ plan_rows-append (together ∷ []) (own ∷ []) (supplies first acts g)
       ∙ ap (λ x. plan_rows (together ∷ []) (supplies first acts g) ++ rows_from x (own ∷ []) (supplies first acts g)) start
 

@@ -1,28 +1,5 @@
 -- An order, urgent or not, judged by its slice is judged as by the acts.
-use Rattle.std.proofs.Common.{◌≡◌, ℕ, ◌+◌, ◌≤◌, ◌<◌, Bool, true, false, not, List, [], ◌∷◌, refl, ap, sym, ◌∙◌, arith}
-use Rattle.std.specs.Prelude.{◌||◌, nat_lt, ℤ}
-use Rattle.std.specs.List.{list_any}
-use Rattle.values.specs.Values.{same_text}
-use Rattle.commands.specs.declared.limits.TheConstants.{OPEN_MAX}
-use Rattle.commands.specs.declared.key.Key.{Key}
-use Rattle.commands.specs.declared.command.OrderLine.{OrderLine}
-use Rattle.commands.specs.declared.command.NewOrder.{NewOrder}
-use Rattle.commands.specs.declared.refusal.Refusal.TheVariants.{UnknownItem, OrderExists, ItemTwice, OverOrdered}
-use Rattle.commands.specs.Lists.{total}
-use borrow.Author.Tests.{ltb-false, ltb-true, lt-ltb, le-ltb}
-use Rattle.machine.specs.Acts.{Act}
-use Rattle.machine.specs.Standing.{has_item}
-use Rattle.machine.specs.Planning.{open_units}
-use Rattle.machine.specs.Once.{IsHistory}
-use Rattle.machine.specs.Tables.{tables_of}
-use Rattle.machine.specs.Touched.{is_touched}
-use Rattle.rules.specs.Slices.{IsSlice, plans}
-use Rattle.row_rules.specs.Seen.{capped}
-use Rattle.machine.specs.Verdict.{first_refusal, judgement, names_item_twice}
-use Rattle.row_rules.specs.OpenLines.{open_of_line}
-use Rattle.order_rules.specs.DecidedOrder.{order_seen, misses_item, orders_too_much}
-use Rattle.row_rules.specs.declared.slice.Slice.{Slice}
-use Rattle.machine.proofs.Tests.{or_later, same_text_refl}
+use Rattle.rules.proofs.Words.{◌≡◌, ℕ, ◌+◌, ◌≤◌, ◌<◌, Bool, true, false, not, List, [], ◌∷◌, refl, ap, sym, ◌∙◌, arith, ◌||◌, nat_lt, ℤ, list_any, ltb-false, ltb-true, lt-ltb, le-ltb, same_text, OPEN_MAX, Key, OrderLine, NewOrder, UnknownItem, OrderExists, ItemTwice, OverOrdered, total, Act, has_item, open_units, IsHistory, tables_of, is_touched, IsSlice, plans, capped, first_refusal, judgement, names_item_twice, open_of_line, order_seen, misses_item, orders_too_much, Slice, or_later, same_text_refl}
 use Rattle.rules.proofs.rows.Planned.{no_shipment}
 use Rattle.rules.proofs.rows.SliceTells.{item_told}
 use Rattle.rules.proofs.rows.OrderTold.{order_told}
@@ -69,7 +46,7 @@ module _ (first : ℤ) (acts : List Act) (key : Key) (o : NewOrder) (u : Bool) (
   items_told (l ∷ ls) h = λ i. not (item_told first acts act s slice (no_shipment act.command planned) l.gtin (touched l.gtin h.0) i) || items_told ls h.1 i
 
   units_told : (g : List ℕ) → is_touched first act acts g ≡ true → total (open_of_line g s.rows.orders) s.rows.lines ≡ open_units first acts g
-  units_told g t = rows_tell_open_units first acts history g s.rows.orders s.rows.lines s.rows.staged s.rows.urgents (slice_tells_demands first acts act s slice planned g t)
+  units_told g t = rows_tell_open_units first acts history g s.rows (slice_tells_demands first acts act s slice planned g t)
 
   too_much_told : (ls : List OrderLine) → AllAmong o.lines ls → orders_too_much s ls ≡ list_any (λ l. nat_lt OPEN_MAX (open_units first acts l.gtin + l.qty)) ls
   too_much_told [] h = refl

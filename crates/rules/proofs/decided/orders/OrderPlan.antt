@@ -1,32 +1,6 @@
 -- After an order the plan of each of its items has the rows of before, and behind them those of its line.
-use Rattle.std.proofs.Common.{◌≡◌, ℕ, ◌+◌, true, false, ◌&&◌, not, List, [], ◌∷◌, ◌++◌, refl, ap, sym, subst, ◌∙◌, arith}
-use Rattle.std.specs.Prelude.{◌==◌, if◌then◌else◌, ℤ, Option, Some, None, find, filter, map, flat_map, reverse}
-use Rattle.std.specs.List.{list_any, cons_option}
-use Rattle.std.proofs.lemmas.Bool.{eqb-true}
-use Rattle.std.proofs.lemmas.List.{reverse-append, append_assoc}
-use Rattle.values.specs.Values.{same_text}
-use Rattle.values.specs.declared.lot.LotId.{LotId}
-use Rattle.commands.specs.declared.key.Key.{Key}
-use Rattle.commands.specs.declared.command.OrderLine.{OrderLine}
-use Rattle.commands.specs.declared.command.NewOrder.{NewOrder}
-use Rattle.commands.specs.declared.rows.OrderRow.{OrderRow}
-use Rattle.commands.specs.declared.rows.LotRow.{LotRow}
-use Rattle.plan.specs.declared.Demand.{Demand}
-use Rattle.plan.specs.declared.Supply.{Supply}
-use Rattle.plan.specs.declared.Row.{Row}
-use Rattle.plan.specs.Overlap.{Stretch, overlap, row_of, rows_of_demand, rows_from, plan_rows, supplies_laid, demand_total, reserved_in, reserved_for}
-use Rattle.plan.proofs.Sums.{total-append}
-use Rattle.plan.proofs.Laying.{plan_rows-append}
-use Rattle.machine.specs.Acts.{Act, next_number}
-use Rattle.machine.specs.Postings.{of_item}
-use Rattle.machine.specs.Standing.{Placed, KnownLot, orders, order_named, has_order, lot_known}
-use Rattle.machine.specs.Planning.{is_urgent, is_normal, booking_of, lines_of_item, bookings, demand_of, demands, supplies, item_postings, plan, reserved, reserved_of}
-use Rattle.machine.specs.Once.{IsHistory}
-use Rattle.row_rules.specs.Plans.{named_row, named_rows}
-use Rattle.machine.proofs.Tests.{or_none, same_text_is, same_text_refl}
-use Rattle.machine.proofs.Apart.{AreApart}
-use Rattle.machine.proofs.histories.Served.{demands_apart}
-use Rattle.machine.proofs.histories.Orders.{act_names_order}
+use Rattle.std.proofs.lemmas.List.{append_assoc}
+use Rattle.rules.proofs.Words.{◌≡◌, ℕ, ◌+◌, true, false, ◌&&◌, not, List, [], ◌∷◌, ◌++◌, refl, ap, sym, subst, ◌∙◌, arith, ◌==◌, if◌then◌else◌, ℤ, Option, Some, None, find, filter, map, flat_map, reverse, list_any, cons_option, eqb-true, reverse-append, same_text, LotId, Key, OrderLine, NewOrder, OrderRow, LotRow, Demand, Supply, Row, Stretch, overlap, row_of, rows_of_demand, rows_from, plan_rows, supplies_laid, demand_total, reserved_in, reserved_for, total-append, plan_rows-append, Act, next_number, of_item, Placed, KnownLot, orders, order_named, has_order, lot_known, is_urgent, is_normal, booking_of, lines_of_item, bookings, demand_of, demands, supplies, item_postings, plan, reserved, reserved_of, IsHistory, named_row, named_rows, or_none, same_text_is, same_text_refl, AreApart, demands_apart, act_names_order, map_appended}
 use Rattle.rules.proofs.decided.orders.Placing.{new_needs}
 use Rattle.rules.proofs.decided.orders.OrderStep.{act, after, placed, named_same}
 
@@ -86,10 +60,6 @@ others_before : (ds : List Demand) (d : Demand) → AreApart (λ (d e : Demand).
 others_before [] d h = tt
 others_before (c ∷ ds) d h = (last_apart c.booking ds d h.0, others_before ds d h.1)
 
-map_append : {X Y : Type 0} (f : X → Y) (xs ys : List X) → map f (xs ++ ys) ≡ map f xs ++ map f ys
-map_append f [] ys = refl
-map_append f (x ∷ xs) ys = ap (λ zs. f x ∷ zs) (map_append f xs ys)
-
 module _ (first : ℤ) (acts : List Act) (key : Key) (o : NewOrder) (next : IsHistory first (act first acts key o false ∷ acts)) (new : has_order acts o.order ≡ false)
     (l : OrderLine) (alone : filter (λ m. same_text l.gtin m.gtin) o.lines ≡ l ∷ []) where
   abbrev g : List ℕ
@@ -113,7 +83,7 @@ module _ (first : ℤ) (acts : List Act) (key : Key) (o : NewOrder) (next : IsHi
   demands_after : demands first (after first acts key o false) g ≡ demands first acts g ++ line_demand ∷ []
   demands_after =
       ap (map (demand_of acts (item_postings first acts g))) bookings_after
-      ∙ map_append (demand_of acts (item_postings first acts g)) (bookings acts g) (booking_of own l ∷ [])
+      ∙ map_appended (demand_of acts (item_postings first acts g)) (bookings acts g) (booking_of own l ∷ [])
       ∙ ap (λ n. demands first acts g ++ record { booking = next_number acts; need = n } ∷ []) (new_needs first acts next.0 (booking_of own l) new)
 
   -- the rows of the line

@@ -1,23 +1,5 @@
 -- The reply to an order says what its plans leave short.
-use Rattle.std.proofs.Common.{◌≡◌, ◌+◌, ◌-◌, false, List, [], ◌∷◌, ◌++◌, refl, ap, sym, ◌∙◌}
-use Rattle.std.specs.Prelude.{ℤ, Some, find, is_some, codes, decimal}
-use Rattle.commands.specs.Lists.{total}
-use Rattle.commands.specs.declared.key.Key.{Key}
-use Rattle.commands.specs.declared.command.OrderLine.{OrderLine}
-use Rattle.commands.specs.declared.command.NewOrder.{NewOrder}
-use Rattle.commands.specs.declared.command.Command.TheVariants.{Order}
-use Rattle.plan.specs.Overlap.{reserved_for}
-use Rattle.machine.specs.Acts.{Act, next_number}
-use Rattle.machine.specs.Planning.{plan, short_of_order}
-use Rattle.machine.specs.Once.{IsHistory}
-use Rattle.machine.specs.Replies.{reply, short_field}
-use Rattle.machine.specs.Tables.{tables_of}
-use Rattle.rules.specs.Slices.{IsSlice}
-use Rattle.row_rules.specs.Seen.{capped, number_seen}
-use Rattle.order_rules.specs.Booked.{plan_booked, line_short as short_of_line}
-use Rattle.order_rules.specs.DecidedOrder.{short_seen, order_reply}
-use Rattle.row_rules.specs.declared.slice.Slice.{Slice}
-use Rattle.machine.proofs.Apart.{AllFound, any_found}
+use Rattle.rules.proofs.Words.{◌≡◌, ◌+◌, ◌-◌, false, List, [], ◌∷◌, ◌++◌, refl, ap, sym, ◌∙◌, ℤ, Some, find, is_some, codes, decimal, total, Key, OrderLine, NewOrder, Order, reserved_for, Act, next_number, plan, short_of_order, IsHistory, reply, short_field, tables_of, IsSlice, capped, number_seen, plan_booked, line_short as short_of_line, short_seen, order_reply, Slice, AllFound, any_found}
 use Rattle.rules.proofs.rows.DemandsTold.{listed, line_found}
 use Rattle.rules.proofs.decided.orders.OrderTells.{is_new, is_single, are_sound, number_is, same_item, lines_found}
 use Rattle.rules.proofs.decided.orders.OrderShort.{little_left, short_is}

@@ -1,36 +1,5 @@
 -- An order puts its own reserved rows, line after line, and no other row changes.
-use Rattle.std.proofs.Common.{◌≡◌, ℕ, Bool, true, false, ◌&&◌, not, List, [], ◌∷◌, refl, ap, sym, subst, ◌∙◌}
-use Rattle.std.specs.Prelude.{◌==◌, if◌then◌else◌, ℤ, Option, Some, None, find, filter, flat_map, is_some}
-use Rattle.std.specs.List.{list_any, cons_option}
-use Rattle.values.specs.Values.{same_text}
-use Rattle.values.specs.declared.lot.LotId.{LotId}
-use Rattle.commands.specs.declared.key.Key.{Key}
-use Rattle.commands.specs.declared.command.OrderLine.{OrderLine}
-use Rattle.commands.specs.declared.command.NewOrder.{NewOrder}
-use Rattle.commands.specs.declared.command.Command.TheVariants.{Order}
-use Rattle.commands.specs.declared.rows.OrderRow.{OrderRow}
-use Rattle.commands.specs.declared.rows.LotRow.{LotRow}
-use Rattle.commands.specs.declared.rows.ReservedRow.{ReservedRow}
-use Rattle.plan.specs.declared.Row.{Row}
-use Rattle.machine.specs.Acts.{Act}
-use Rattle.machine.specs.Postings.{is_lot, of_item}
-use Rattle.machine.specs.Standing.{has_order, order_named}
-use Rattle.machine.specs.Planning.{plan, reserved}
-use Rattle.machine.specs.Once.{IsHistory}
-use Rattle.machine.specs.Tables.{tables_of, order_row}
-use Rattle.machine.specs.Touched.{is_touched}
-use Rattle.machine.specs.Verdict.{names_item_twice}
-use Rattle.machine.specs.KeyedRows.{no_two, AreOwn}
-use Rattle.rules.specs.Slices.{IsSlice, differs, unless_put}
-use Rattle.row_rules.specs.Plans.{named_row, named_rows, is_share_of}
-use Rattle.order_rules.specs.Booked.{line_put}
-use Rattle.order_rules.specs.DecidedOrder.{new_order_row, order_rows_to_put}
-use Rattle.row_rules.specs.declared.slice.Slice.{Slice}
-use Rattle.machine.proofs.Tests.{or_none, same_text_is, same_text_refl}
-use Rattle.machine.proofs.Apart.{AllFound, any_found}
-use Rattle.machine.proofs.histories.Needs.{unknown_is_unreserved}
-use Rattle.machine.proofs.histories.NewOrders.{new_is_not_named}
-use Rattle.machine.proofs.histories.Picks.{Each}
+use Rattle.rules.proofs.Words.{◌≡◌, ℕ, Bool, true, false, ◌&&◌, not, List, [], ◌∷◌, refl, ap, sym, subst, ◌∙◌, ◌==◌, if◌then◌else◌, ℤ, Option, Some, None, find, filter, flat_map, is_some, list_any, cons_option, same_text, LotId, Key, OrderLine, NewOrder, Order, OrderRow, LotRow, ReservedRow, Row, Act, is_lot, of_item, has_order, order_named, plan, reserved, IsHistory, tables_of, order_row, is_touched, names_item_twice, no_two, AreOwn, IsSlice, differs, unless_put, named_row, named_rows, is_share_of, line_put, new_order_row, order_rows_to_put, Slice, or_none, same_text_is, same_text_refl, AllFound, any_found, unknown_is_unreserved, new_is_not_named, Each, Rows}
 use Rattle.rules.proofs.rows.DemandsTold.{listed, line_found}
 use Rattle.rules.proofs.rows.TableSteps.{AreNamed, IsNamed, share_row, nothing_named}
 use Rattle.rules.proofs.rows.SharesTold.{shares_told, shares_once, shares_elsewhere}
@@ -119,7 +88,11 @@ module _ (first : ℤ) (acts : List Act) (key : Key) (o : NewOrder) (s : Slice) 
     rows_are : put ≡ rows
     rows_are = put_told first acts key o s slice next l touched alone
 
-    supplies_are : TellsSupplies first after g s.rows.lots s.rows.recalls s.rows.stock s.rows.bins
+    -- the rows of the slice, with the order alone
+    abbrev told : Rows
+    told = record s.rows { orders = row ∷ [] }
+
+    supplies_are : TellsSupplies first after g told
     supplies_are =
         let same = slice_tells_supplies first acts act s slice refl g touched in
         record { lots = same.lots; recalls = same.recalls; stock = same.stock; bins = same.bins }
@@ -132,7 +105,7 @@ module _ (first : ℤ) (acts : List Act) (key : Key) (o : NewOrder) (s : Slice) 
         ap (λ b. if b then Some row else None) e ∙ sym (ap (order_row first after) order ∙ row_is_there) in
         subst (λ n. IsNamed q m n (reserved first after q m) put []) (sym none)
         (new_named q m (reserved first after q m) put
-        (ap (find (λ (r : ReservedRow). same_text q r.order && is_lot m r.lot)) rows_are ∙ shares_told first after next g (row ∷ []) s.rows.lots s.rows.recalls s.rows.stock s.rows.bins rows_own supplies_are q m own (λ e. there)))
+        (ap (find (λ (r : ReservedRow). same_text q r.order && is_lot m r.lot)) rows_are ∙ shares_told first after next g told rows_own supplies_are q m own (λ e. there)))
     own_row q m own false e =
         let same = nothing_named q m (reserved first acts q m) (reserved first after q m) (others_keep first acts key o next new l alone q m e own) in
         record { put = ap (find (λ (r : ReservedRow). same_text q r.order && is_lot m r.lot)) rows_are ∙ none_of_other q m row s.rows.lots e (plan first after g) ∙ same.put; dropped = same.dropped }
@@ -140,7 +113,7 @@ module _ (first : ℤ) (acts : List Act) (key : Key) (o : NewOrder) (s : Slice) 
     none_elsewhere : (q : List ℕ) (m : LotId) → of_item g m ≡ false → find (λ (r : ReservedRow). same_text q r.order && is_lot m r.lot) put ≡ None
     none_elsewhere q m other =
         ap (find (λ (r : ReservedRow). same_text q r.order && is_lot m r.lot)) rows_are
-        ∙ shares_elsewhere first after next g (row ∷ []) s.rows.lots s.rows.recalls s.rows.stock s.rows.bins rows_own supplies_are q m other
+        ∙ shares_elsewhere first after next g told rows_own supplies_are q m other
 
     row_elsewhere : (q : List ℕ) (m : LotId) → of_item g m ≡ false → IsNamed q m 0 0 put []
     row_elsewhere q m other = record { put = none_elsewhere q m other; dropped = refl }
@@ -149,7 +122,7 @@ module _ (first : ℤ) (acts : List Act) (key : Key) (o : NewOrder) (s : Slice) 
     all_own = all_of g put none_elsewhere
 
     put_once : no_two is_share_of put ≡ true
-    put_once = ap (no_two is_share_of) rows_are ∙ shares_once first after next g (row ∷ []) s.rows.lots s.rows.recalls s.rows.stock s.rows.bins rows_own supplies_are
+    put_once = ap (no_two is_share_of) rows_are ∙ shares_once first after next g told rows_own supplies_are
 
   abbrev puts : OrderLine → List ReservedRow
   puts l = line_put s (new_order_row s o) l

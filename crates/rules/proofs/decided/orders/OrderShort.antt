@@ -1,27 +1,5 @@
 -- What the plans leave short of an order that an act places, line by line.
-use Rattle.std.proofs.Common.{◌≡◌, ℕ, ◌+◌, ◌-◌, ◌*◌, ◌≤◌, Bool, true, false, ◌&&◌, List, [], ◌∷◌, refl, ap, sym, ◌∙◌, arith}
-use Rattle.std.specs.Prelude.{if◌then◌else◌, ℤ, Some, find, filter, map, flat_map, length, nat_le}
-use Rattle.std.specs.List.{list_all, list_any}
-use Rattle.std.proofs.lemmas.Bool.Decides.{nat_tests}
-use Rattle.values.specs.Values.{QTY_MAX, same_text, is_qty, is_gtin}
-use Rattle.commands.specs.Lists.{total}
-use Rattle.commands.specs.Limits.{has_order_lines}
-use Rattle.commands.specs.declared.limits.TheConstants.{ORDER_LINES_MAX}
-use Rattle.commands.specs.Sound.{is_order_line, are_lines}
-use Rattle.commands.specs.declared.key.Key.{Key}
-use Rattle.commands.specs.declared.command.OrderLine.{OrderLine}
-use Rattle.commands.specs.declared.command.NewOrder.{NewOrder}
-use Rattle.plan.specs.Overlap.{reserved_for}
-use Rattle.machine.specs.Acts.{Act, next_number}
-use Rattle.machine.specs.Standing.{Placed, orders, has_order, lines_placed}
-use Rattle.machine.specs.Planning.{Booking, booking_of, bookings, lines_of_item, plan, short_of, short_of_order, need, item_postings}
-use Rattle.machine.specs.Once.{IsHistory}
-use Rattle.machine.specs.Verdict.{names_item_twice}
-use Rattle.row_rules.specs.Seen.{capped}
-use Rattle.machine.proofs.Tests.{and_both, or_none, same_text_refl}
-use Rattle.machine.proofs.Apart.{AllFound, any_found}
-use Rattle.machine.proofs.histories.Quantities.{at_most_limit}
-use Rattle.rules.proofs.rows.Ordering.{total_filter}
+use Rattle.rules.proofs.Words.{◌≡◌, ℕ, ◌+◌, ◌-◌, ◌*◌, ◌≤◌, Bool, true, false, ◌&&◌, List, [], ◌∷◌, refl, ap, sym, ◌∙◌, arith, if◌then◌else◌, ℤ, Some, find, filter, map, flat_map, length, nat_le, list_all, list_any, nat_tests, QTY_MAX, same_text, is_qty, is_gtin, total, has_order_lines, ORDER_LINES_MAX, is_order_line, are_lines, Key, OrderLine, NewOrder, reserved_for, Act, next_number, Placed, orders, has_order, lines_placed, Booking, booking_of, bookings, lines_of_item, plan, short_of, short_of_order, need, item_postings, IsHistory, names_item_twice, capped, and_both, or_none, same_text_refl, AllFound, any_found, at_most_limit, total_kept}
 use Rattle.rules.proofs.rows.BookingSums.{total_flat_map, total_bookings}
 use Rattle.rules.proofs.rows.DemandsTold.{listed, line_found}
 use Rattle.rules.proofs.decided.orders.Placing.{new_needs, orders_are, need_same}
@@ -99,6 +77,6 @@ module _ (first : ℤ) (acts : List Act) (key : Key) (o : NewOrder) (u : Bool) (
   short_is found =
       ap (λ ls. total (λ b. short_of first later b) (filter (λ b. same_text o.order b.order) (flat_map (λ (l : OrderLine). bookings later l.gtin) ls)))
       (ap lines_placed (named_own first acts key o u o.order (same_text_refl o.order)))
-      ∙ total_filter (λ b. short_of first later b) (λ b. same_text o.order b.order) (flat_map (λ (l : OrderLine). bookings later l.gtin) o.lines)
+      ∙ total_kept (λ b. short_of first later b) (λ b. same_text o.order b.order) (flat_map (λ (l : OrderLine). bookings later l.gtin) o.lines)
       ∙ total_flat_map own_short (λ (l : OrderLine). bookings later l.gtin) o.lines
       ∙ lines_short o.lines found

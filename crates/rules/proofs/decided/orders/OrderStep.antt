@@ -1,31 +1,5 @@
 -- The change of an order, urgent or not, takes the tables to those with the act, if its reserved rows do.
-use Rattle.std.proofs.Common.{◌≡◌, ℕ, ◌≤◌, Bool, true, false, ◌&&◌, List, [], ◌∷◌, refl, ap, sym, ◌∙◌, arith}
-use Rattle.std.specs.Prelude.{◌==◌, if◌then◌else◌, ℤ, Option, Some, None, find, map, option_map}
-use Rattle.std.specs.List.{list_all}
-use Rattle.std.proofs.lemmas.Bool.{eqb-true}
-use Rattle.values.specs.Values.{same_text}
-use Rattle.values.specs.declared.lot.LotId.{LotId}
-use Rattle.commands.specs.declared.key.Key.{Key}
-use Rattle.commands.specs.declared.command.OrderLine.{OrderLine}
-use Rattle.commands.specs.declared.command.NewOrder.{NewOrder}
-use Rattle.commands.specs.declared.rows.OrderState.TheVariants.{Open, Done, Cancelled}
-use Rattle.commands.specs.declared.rows.OrderRow.{OrderRow}
-use Rattle.commands.specs.declared.rows.LineRow.{LineRow}
-use Rattle.commands.specs.declared.rows.UrgentRow.{UrgentRow}
-use Rattle.commands.specs.declared.rows.ReservedRow.{ReservedRow}
-use Rattle.machine.specs.Acts.{Act, next_number}
-use Rattle.machine.specs.Postings.{is_lot}
-use Rattle.machine.specs.Standing.{Placed, orders, order_named, has_order, lines_placed, is_cancelled}
-use Rattle.machine.specs.Planning.{shipped_of, order_state}
-use Rattle.machine.specs.Once.{IsHistory}
-use Rattle.machine.specs.Tables.{tables_of, meta_row, if_urgent, order_row, urgent_row, line_row, reserved_row}
-use Rattle.rules.specs.Slices.{applied, tables_but_repeats, changed, unless_put}
-use Rattle.row_rules.specs.Seen.{none_put, none_dropped}
-use Rattle.order_rules.specs.DecidedOrder.{new_line_rows}
-use Rattle.row_rules.specs.declared.slice.Change.{Change}
-use Rattle.machine.proofs.Tests.{same_text_is}
-use Rattle.machine.proofs.histories.Orders.{found_order}
-use Rattle.machine.proofs.histories.NewOrders.{not_some, new_is_not_cancelled, new_is_not_named, new_has_nothing_shipped}
+use Rattle.rules.proofs.Words.{◌≡◌, ℕ, ◌≤◌, Bool, true, false, ◌&&◌, List, [], ◌∷◌, refl, ap, sym, ◌∙◌, arith, ◌==◌, if◌then◌else◌, ℤ, Option, Some, None, find, map, option_map, list_all, eqb-true, same_text, LotId, Key, OrderLine, NewOrder, Open, Done, Cancelled, OrderRow, LineRow, UrgentRow, ReservedRow, Act, next_number, is_lot, Placed, orders, order_named, has_order, lines_placed, is_cancelled, shipped_of, order_state, IsHistory, tables_of, meta_row, if_urgent, order_row, urgent_row, line_row, reserved_row, applied, tables_but_repeats, changed, unless_put, none_put, none_dropped, new_line_rows, Change, same_text_is, found_order, not_some, new_is_not_cancelled, new_is_not_named, new_has_nothing_shipped}
 use Rattle.rules.proofs.rows.TableSteps.{same_tables}
 use Rattle.rules.proofs.rows.AddedRows.{put_over_none}
 use Rattle.rules.proofs.decided.orders.Placing.{placing_act, placed_by, named_with, named_are, state_is, line_row_is, urgent_row_is}

@@ -1,29 +1,5 @@
 -- What the rows of an order's slice tell of it, urgent or not: its number and row, and that it is new.
-use Rattle.std.proofs.Common.{◌≡◌, ℕ, Bool, true, false, ◌&&◌, not, List, [], ◌∷◌, refl, ap, ◌∙◌}
-use Rattle.std.specs.Prelude.{◌||◌, ℤ, map}
-use Rattle.std.specs.List.{list_all, list_any}
-use Rattle.values.specs.Values.{same_text, is_qty, is_gtin}
-use Rattle.commands.specs.Limits.{has_order_lines}
-use Rattle.commands.specs.Sound.{is_order_line, are_lines}
-use Rattle.commands.specs.declared.key.Key.{Key}
-use Rattle.commands.specs.declared.command.OrderLine.{OrderLine}
-use Rattle.commands.specs.declared.command.NewOrder.{NewOrder}
-use Rattle.commands.specs.declared.rows.OrderState.TheVariants.{Open}
-use Rattle.commands.specs.declared.rows.LineRow.{LineRow}
-use Rattle.machine.specs.Acts.{Act, next_number}
-use Rattle.machine.specs.Standing.{has_order}
-use Rattle.machine.specs.Once.{IsHistory}
-use Rattle.machine.specs.Tables.{tables_of}
-use Rattle.machine.specs.Verdict.{names_item_twice}
-use Rattle.machine.specs.KeyedRows.{no_two}
-use Rattle.rules.specs.Slices.{IsSlice}
-use Rattle.row_rules.specs.Seen.{number_seen}
-use Rattle.order_rules.specs.DecidedOrder.{new_order_row, new_line_rows}
-use Rattle.row_rules.specs.declared.slice.Slice.{Slice}
-use Rattle.machine.proofs.Tests.{and_both, and_false, or_none, same_text_refl, same_text_turned}
-use Rattle.machine.proofs.Apart.{AreApart, AllFound, all_found}
-use Rattle.machine.proofs.histories.Quantities.{at_least_one}
-use Rattle.machine.proofs.histories.Accepted.{OrderAccepted, room_for_acts}
+use Rattle.rules.proofs.Words.{◌≡◌, ℕ, Bool, true, false, ◌&&◌, not, List, [], ◌∷◌, refl, ap, ◌∙◌, ◌||◌, ℤ, map, list_all, list_any, same_text, is_qty, is_gtin, has_order_lines, is_order_line, are_lines, Key, OrderLine, NewOrder, Open, LineRow, Act, next_number, has_order, IsHistory, tables_of, names_item_twice, no_two, IsSlice, number_seen, new_order_row, new_line_rows, Slice, and_both, and_false, or_none, same_text_refl, same_text_turned, AreApart, AllFound, all_found, at_least_one, OrderAccepted, room_for_acts}
 use Rattle.rules.proofs.decided.orders.Placing.{placing, placing_act, placing_lines, placing_accepted}
 use Rattle.rules.proofs.decided.orders.OrderStep.{WantsUnits, new_row}
 use Rattle.rules.proofs.decided.Decisions.{number_same}

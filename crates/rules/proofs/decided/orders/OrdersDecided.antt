@@ -1,19 +1,5 @@
 -- New orders are decided as the machine decides them.
-use Rattle.std.proofs.Common.{◌≡◌, false, List, [], ◌∷◌, refl, ap, ◌∙◌}
-use Rattle.std.specs.Prelude.{ℤ, Result}
-use Rattle.commands.specs.declared.key.Key.{Key}
-use Rattle.commands.specs.declared.command.NewOrder.{NewOrder}
-use Rattle.commands.specs.declared.command.Command.TheVariants.{Order}
-use Rattle.machine.specs.Acts.{Act}
-use Rattle.machine.specs.Once.{IsHistory}
-use Rattle.machine.specs.Tables.{tables_of}
-use Rattle.rules.specs.Slices.{IsSlice, applied}
-use Rattle.row_rules.specs.Seen.{none_put, none_dropped}
-use Rattle.order_rules.specs.DecidedOrder.{new_line_rows, order_rows_to_put, order_reply, order_seen, order_changes}
-use Rattle.row_rules.specs.declared.slice.Slice.{Slice}
-use Rattle.row_rules.specs.declared.slice.Change.{Change}
-use Rattle.row_rules.specs.declared.slice.RuleFault.{RuleFault}
-use Rattle.machine.proofs.histories.Accepted.{room_for_acts}
+use Rattle.rules.proofs.Words.{◌≡◌, false, List, [], ◌∷◌, refl, ap, ◌∙◌, ℤ, Result, Key, NewOrder, Order, Act, IsHistory, tables_of, IsSlice, applied, none_put, none_dropped, new_line_rows, order_rows_to_put, order_reply, order_seen, order_changes, Slice, Change, RuleFault, room_for_acts}
 use Rattle.rules.proofs.rows.TableSteps.{names_changed, reserved_changed}
 use Rattle.rules.proofs.decided.Decisions.{AreRight, IsChange, meta_same}
 use Rattle.rules.proofs.decided.orders.OrderJudged.{order_judged}

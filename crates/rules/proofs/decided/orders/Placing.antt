@@ -1,26 +1,5 @@
 -- A command that places an order, urgent or not: what it touches, what it makes known, and what it leaves as it was.
-use Rattle.std.proofs.Common.{◌≡◌, ℕ, ◌-◌, Bool, true, false, ◌&&◌, List, ◌∷◌, refl, ◌∙◌, arith}
-use Rattle.std.specs.Prelude.{◌==◌, if◌then◌else◌, ℤ, Option, Some, None, find, option_map}
-use Rattle.std.specs.List.{list_all, list_any}
-use Rattle.values.specs.Values.{same_text, is_name, is_title}
-use Rattle.commands.specs.Sound.{is_sound, are_lines}
-use Rattle.commands.specs.declared.key.Key.{Key}
-use Rattle.commands.specs.declared.command.OrderLine.{OrderLine}
-use Rattle.commands.specs.declared.command.NewOrder.{NewOrder}
-use Rattle.commands.specs.declared.command.Command.{Command}
-use Rattle.commands.specs.declared.command.Command.TheVariants.{Order, Urgent}
-use Rattle.commands.specs.declared.rows.OrderState.TheVariants.{Open, Done, Cancelled}
-use Rattle.machine.specs.Acts.{Act, next_number}
-use Rattle.machine.specs.Standing.{Placed, orders, order_named, has_order, lines_placed, is_cancelled}
-use Rattle.machine.specs.Planning.{Booking, item_postings, shipped_of, order_state, need}
-use Rattle.machine.specs.Once.{IsHistory}
-use Rattle.machine.specs.Tables.{if_urgent, line_row, urgent_row}
-use Rattle.machine.specs.Touched.{is_touched}
-use Rattle.machine.specs.Verdict.{judgement, ordering, verdict}
-use Rattle.machine.proofs.Tests.{and_both, same_text_refl}
-use Rattle.machine.proofs.histories.Accepted.{OrderAccepted, order_accepted, urgent_accepted}
-use Rattle.machine.proofs.histories.NewOrders.{new_is_not_cancelled, new_has_nothing_staged, new_has_nothing_shipped}
-use Rattle.rules.specs.Slices.{plans, names_order}
+use Rattle.rules.proofs.Words.{◌≡◌, ℕ, ◌-◌, Bool, true, false, ◌&&◌, List, ◌∷◌, refl, ◌∙◌, arith, ◌==◌, if◌then◌else◌, ℤ, Option, Some, None, find, option_map, list_all, list_any, same_text, is_name, is_title, is_sound, are_lines, Key, OrderLine, NewOrder, Command, Order, Urgent, Open, Done, Cancelled, Act, next_number, Placed, orders, order_named, has_order, lines_placed, is_cancelled, Booking, item_postings, shipped_of, order_state, need, IsHistory, if_urgent, line_row, urgent_row, is_touched, judgement, ordering, verdict, and_both, same_text_refl, OrderAccepted, order_accepted, urgent_accepted, new_is_not_cancelled, new_has_nothing_staged, new_has_nothing_shipped, plans, names_order}
 
 abbrev pub placing : Bool → NewOrder → Command
 placing true o = Urgent o

@@ -1,31 +1,6 @@
 -- The row of an order that is shipped: it is DONE where no line lacks units.
-use Rattle.std.proofs.Common.{◌≡◌, ℕ, Bool, true, false, ◌&&◌, not, List, [], ◌∷◌, refl, ap, sym, subst, ◌∙◌}
-use Rattle.std.specs.Prelude.{◌==◌, ◌||◌, if◌then◌else◌, find, filter, map, Option, Some, None, option_map, is_some, ℤ}
-use Rattle.std.specs.List.{list_all, list_any}
-use Rattle.values.specs.Values.{same_text}
-use Rattle.commands.specs.declared.key.Key.{Key}
-use Rattle.commands.specs.declared.command.OrderLine.{OrderLine}
-use Rattle.commands.specs.declared.command.Command.TheVariants.{Ship}
-use Rattle.commands.specs.declared.rows.OrderState.TheVariants.{Open, Done, Cancelled}
-use Rattle.commands.specs.declared.rows.OrderRow.{OrderRow}
-use Rattle.commands.specs.declared.rows.LineRow.{LineRow}
-use Rattle.machine.specs.Acts.{Act}
-use Rattle.machine.specs.Standing.{Placed, orders, order_named, lines_of, lines_placed, is_cancelled}
-use Rattle.machine.specs.Planning.{shipped_of, order_state, is_open_state, is_shipped_in_full}
-use Rattle.machine.specs.Once.{IsHistory}
-use Rattle.machine.specs.Tables.{tables_of, order_row, line_row}
-use Rattle.machine.specs.Touched.{is_touched}
-use Rattle.machine.specs.KeyedRows.{AreOwn, OrderItem}
-use Rattle.rules.specs.Slices.{IsSlice, changed, unless_put}
-use Rattle.machine.specs.Verdict.{names_item_twice}
-use Rattle.row_rules.specs.SeenOrders.{order_row_seen}
-use Rattle.order_rules.specs.DecidedShip.{line_shipped, lines_shipped, lacks_units, done_row, order_put}
-use Rattle.row_rules.specs.declared.slice.Slice.{Slice}
+use Rattle.rules.proofs.Words.{◌≡◌, ℕ, Bool, true, false, ◌&&◌, not, List, [], ◌∷◌, refl, ap, sym, subst, ◌∙◌, ◌==◌, ◌||◌, if◌then◌else◌, find, filter, map, Option, Some, None, option_map, is_some, ℤ, list_all, list_any, same_text, Key, OrderLine, Ship, Open, Done, Cancelled, OrderRow, LineRow, Act, Placed, orders, order_named, lines_of, lines_placed, is_cancelled, shipped_of, order_state, is_open_state, is_shipped_in_full, IsHistory, tables_of, order_row, line_row, is_touched, AreOwn, OrderItem, IsSlice, changed, unless_put, names_item_twice, order_row_seen, line_shipped, lines_shipped, lacks_units, done_row, order_put, Slice, and_both, or_none, not_false, same_text_is, same_text_refl, same_text_turned, AllFound, all_found, ship_accepted, orders_single, found_order}
 use Rattle.rules.proofs.decided.orders.OrderTells.{single_apart}
-use Rattle.machine.proofs.Tests.{and_both, or_none, not_false, same_text_is, same_text_refl, same_text_turned}
-use Rattle.machine.proofs.Apart.{AllFound, all_found}
-use Rattle.machine.proofs.histories.Accepted.{ship_accepted}
-use Rattle.machine.proofs.histories.Orders.{orders_single, found_order}
 use Rattle.rules.proofs.rows.OrderTold.{found_order_row}
 use Rattle.rules.proofs.rows.DemandsTold.{single_of}
 use Rattle.rules.proofs.decided.orders.ShipTells.{shipped_same, line_units, has_placed, line_test, found_shipped}

@@ -1,30 +1,5 @@
 -- The shipping of an order is decided as the machine decides it.
-use Rattle.std.proofs.Common.{◌≡◌, ℕ, ◌+◌, Bool, true, false, ◌&&◌, List, ◌∷◌, ◌++◌, refl, ap, sym, ◌∙◌, arith}
-use Rattle.std.specs.Prelude.{◌==◌, map, Option, Some, None, Result, codes, decimal, ℤ}
-use Rattle.std.specs.List.{list_any}
-use Rattle.values.specs.Values.{same_text}
-use Rattle.commands.specs.declared.key.Key.{Key}
-use Rattle.commands.specs.declared.command.Command.TheVariants.{Ship}
-use Rattle.commands.specs.declared.rows.OrderRow.{OrderRow}
-use Rattle.commands.specs.declared.rows.LineRow.{LineRow}
-use Rattle.commands.specs.declared.rows.StagedRow.{StagedRow}
-use Rattle.commands.specs.declared.rows.ShiplineRow.{ShiplineRow}
-use Rattle.commands.specs.declared.rows.CardRow.{CardRow}
-use Rattle.machine.specs.Acts.{Act}
-use Rattle.machine.specs.Postings.{is_lot}
-use Rattle.machine.specs.Standing.{shipments_so_far}
-use Rattle.machine.specs.Replies.{reply, shipment_field}
-use Rattle.machine.specs.Once.{IsHistory}
-use Rattle.machine.specs.Tables.{tables_of}
-use Rattle.machine.specs.KeyedRows.{no_two}
-use Rattle.rules.specs.Slices.{IsSlice}
-use Rattle.row_rules.specs.Seen.{number_seen}
-use Rattle.row_rules.specs.SeenOrders.{order_row_seen}
-use Rattle.order_rules.specs.DecidedShip.{ship_seen, shipment_seen, lines_shipped, line_shipped, rows_shipped, lacks_units, order_put, shipline, ship_card, ship_reply, ship_changes}
-use Rattle.row_rules.specs.declared.slice.Slice.{Slice}
-use Rattle.row_rules.specs.declared.slice.Change.{Change}
-use Rattle.row_rules.specs.declared.slice.RuleFault.{RuleFault}
-use Rattle.machine.proofs.Tests.{and_both, same_text_is, same_text_refl}
+use Rattle.rules.proofs.Words.{◌≡◌, ℕ, ◌+◌, Bool, true, false, ◌&&◌, List, ◌∷◌, ◌++◌, refl, ap, sym, ◌∙◌, arith, ◌==◌, map, Option, Some, None, Result, codes, decimal, ℤ, list_any, same_text, Key, Ship, OrderRow, LineRow, StagedRow, ShiplineRow, CardRow, Act, is_lot, shipments_so_far, reply, shipment_field, IsHistory, tables_of, no_two, IsSlice, number_seen, order_row_seen, ship_seen, shipment_seen, lines_shipped, line_shipped, rows_shipped, lacks_units, order_put, shipline, ship_card, ship_reply, ship_changes, Slice, Change, RuleFault, and_both, same_text_is, same_text_refl}
 use Rattle.rules.proofs.rows.FoundRows.{kept_once}
 use Rattle.rules.proofs.rows.TableSteps.{names_changed}
 use Rattle.rules.proofs.decided.Decisions.{AreRight, IsChange}

@@ -1,41 +1,6 @@
 -- The change of a shipping takes the tables to those with the act: its shipment, and the card lines of what is shipped.
-use Rattle.std.proofs.Common.{◌≡◌, ℕ, ◌+◌, ◌-◌, Bool, true, false, ◌&&◌, List, [], ◌∷◌, ◌++◌, refl, ap, sym, ◌∙◌, arith, eq-eqb}
-use Rattle.std.specs.Prelude.{◌==◌, ◌||◌, if◌then◌else◌, min, find, map, flat_map, Option, Some, None, is_some, option_map, ℤ, pos, neg_ℤ, decimal}
-use Rattle.std.specs.List.{list_any}
-use Rattle.std.proofs.lemmas.Bool.{eqb-true}
-use Rattle.values.specs.Values.{same_text}
-use Rattle.values.specs.declared.lot.LotId.{LotId}
-use Rattle.commands.specs.declared.limits.TheConstants.{UNITS_MAX}
-use Rattle.commands.specs.declared.key.Key.{Key}
-use Rattle.commands.specs.declared.command.Command.TheVariants.{Ship}
-use Rattle.commands.specs.declared.rows.CardKind.TheVariants.{Shipment}
-use Rattle.commands.specs.declared.rows.StockRow.{StockRow}
-use Rattle.commands.specs.declared.rows.StagedRow.{StagedRow}
-use Rattle.commands.specs.declared.rows.ShipmentRow.{ShipmentRow}
-use Rattle.commands.specs.declared.rows.ShiplineRow.{ShiplineRow}
-use Rattle.commands.specs.declared.rows.CardRow.{CardRow}
-use Rattle.machine.specs.Acts.{Act, next_number}
-use Rattle.machine.specs.Postings.{Stage, Shipped, Posting, balance, is_lot, is_stage, is_shipment, of_item}
-use Rattle.machine.specs.Ledger.{shipped_off, postings}
-use Rattle.machine.specs.Standing.{KnownLot, lots, has_line, today, shipments, shipments_so_far}
-use Rattle.machine.specs.Planning.{staged_of_lot, reserved}
-use Rattle.machine.specs.Cards.{cards, card_lines, lot_units_in_house}
-use Rattle.machine.specs.Once.{IsHistory}
-use Rattle.machine.specs.Tables.{tables_of, if_any, stock_row, staged_row, shipment_row, shipline_row, card_row}
-use Rattle.machine.specs.Touched.{is_touched}
-use Rattle.machine.specs.KeyedRows.{AreRows, LotBin, same_cell}
-use Rattle.rules.specs.Slices.{IsSlice, applied, tables_but_repeats, changed, unless_put, on_named_stage}
-use Rattle.row_rules.specs.Seen.{number_seen, lot_units}
-use Rattle.order_rules.specs.DecidedShip.{shipment_seen, rows_shipped, shipment_put, shipline, ship_card, ship_changes}
-use Rattle.row_rules.specs.declared.slice.Slice.{Slice}
-use Rattle.machine.proofs.Tests.{or_none, and_false, is_lot_is, is_lot_item, is_lot_refl, same_text_refl, same_text_turned}
-use Rattle.machine.proofs.Apart.{AreApart, any_found}
-use Rattle.machine.proofs.histories.Lots.{same_known, lots_apart}
-use Rattle.machine.proofs.histories.KnownPlaces.{unknown_line_is_unstaged, unknown_shipment_is_empty}
-use Rattle.machine.proofs.histories.Notices.{shipments_apart}
-use Rattle.machine.proofs.histories.AfterShipping.{bin_after, shipment_after, house_after, unknown_unstaged, reserved_after}
+use Rattle.rules.proofs.Words.{◌≡◌, ℕ, ◌+◌, ◌-◌, Bool, true, false, ◌&&◌, List, [], ◌∷◌, ◌++◌, refl, ap, sym, ◌∙◌, arith, eq-eqb, ◌==◌, ◌||◌, if◌then◌else◌, min, find, map, flat_map, Option, Some, None, is_some, option_map, ℤ, pos, neg_ℤ, decimal, list_any, eqb-true, same_text, LotId, UNITS_MAX, Key, Ship, Shipment, StockRow, StagedRow, ShipmentRow, ShiplineRow, CardRow, Act, next_number, Stage, Shipped, Posting, balance, is_lot, is_stage, is_shipment, of_item, shipped_off, postings, KnownLot, lots, has_line, today, shipments, shipments_so_far, staged_of_lot, reserved, cards, card_lines, lot_units_in_house, IsHistory, tables_of, if_any, stock_row, staged_row, shipment_row, shipline_row, card_row, is_touched, AreRows, LotBin, same_cell, IsSlice, applied, tables_but_repeats, changed, unless_put, on_named_stage, number_seen, lot_units, shipment_seen, rows_shipped, shipment_put, shipline, ship_card, ship_changes, Slice, or_none, and_false, is_lot_is, is_lot_item, is_lot_refl, same_text_refl, same_text_turned, AreApart, any_found, same_known, lots_apart, unknown_line_is_unstaged, unknown_shipment_is_empty, shipments_apart, bin_after, shipment_after, house_after, unknown_unstaged, reserved_after, and_turned}
 use Rattle.rules.proofs.rows.AddedRows.{find_appended, put_over_none}
-use Rattle.machine.proofs.histories.PlaceRows.{and_turned}
 use Rattle.rules.proofs.rows.FoundRows.{same_finds, find_never, find_kept, find_mapped}
 use Rattle.rules.proofs.rows.LotUnits.{lot_units_told, lot_within_limit}
 use Rattle.rules.proofs.rows.SliceDemands.{slice_tells_stages}

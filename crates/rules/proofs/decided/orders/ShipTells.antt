@@ -1,38 +1,5 @@
 -- The rows that the shipping of an order puts and drops: its staged rows, its lines and its own row.
-use Rattle.std.proofs.Common.{◌≡◌, ℕ, ◌+◌, ◌<◌, Bool, true, false, ◌&&◌, List, [], ◌∷◌, refl, ap, sym, subst, ◌∙◌, arith}
-use Rattle.std.specs.Prelude.{◌||◌, if◌then◌else◌, length, find, Option, Some, None, option_map, is_some, ℤ}
-use Rattle.std.proofs.lemmas.Bool.Decides.{nat_tests}
-use Rattle.values.specs.Values.{same_text}
-use Rattle.values.specs.declared.lot.LotId.{LotId}
-use Rattle.commands.specs.declared.limits.TheConstants.{ACTS_MAX}
-use Rattle.commands.specs.declared.key.Key.{Key}
-use Rattle.commands.specs.declared.command.OrderLine.{OrderLine}
-use Rattle.commands.specs.declared.command.Command.TheVariants.{Ship}
-use Rattle.commands.specs.declared.rows.LineRow.{LineRow}
-use Rattle.commands.specs.declared.rows.StagedRow.{StagedRow}
-use Rattle.machine.specs.Acts.{Act, next_number}
-use Rattle.machine.specs.Postings.{balance, is_lot, is_stage, of_item}
-use Rattle.machine.specs.Ledger.{postings}
-use Rattle.machine.specs.Standing.{has_line, lines_of, shipments_so_far}
-use Rattle.machine.specs.Planning.{staged_of_lot, shipped_of}
-use Rattle.machine.specs.Once.{IsHistory}
-use Rattle.machine.specs.Tables.{tables_of, meta_row, if_any, line_row, staged_row}
-use Rattle.machine.specs.Touched.{is_touched}
-use Rattle.machine.specs.KeyedRows.{AreRows, OrderLot, same_share}
-use Rattle.rules.specs.Slices.{IsSlice, names_order, changed, unless_put, unless_emptied}
-use Rattle.row_rules.specs.Seen.{capped, number_seen}
-use Rattle.row_rules.specs.Plans.{staged_seen}
-use Rattle.row_rules.specs.SeenOrders.{lines_seen}
-use Rattle.order_rules.specs.DecidedShip.{shipment_seen, meta_shipped, line_shipped, lines_shipped}
-use Rattle.row_rules.specs.declared.slice.Slice.{Slice}
-use Rattle.machine.proofs.Tests.{and_both, same_text_is, same_text_refl, same_text_turned, is_lot_is}
-use Rattle.machine.proofs.Apart.{any_found}
-use Rattle.machine.proofs.histories.Accepted.{room_for_acts}
-use Rattle.machine.proofs.histories.LegalHistories.{legal_history}
-use Rattle.machine.proofs.histories.KnownPlaces.{unknown_line_is_unstaged}
-use Rattle.machine.proofs.histories.ClosedOrders.{served_is, served_within_ordered}
-use Rattle.machine.proofs.histories.LineLimits.{ordered_within_limit, shipments_within_acts}
-use Rattle.machine.proofs.histories.AfterShipping.{stage_after, shipped_after, of_postings}
+use Rattle.rules.proofs.Words.{◌≡◌, ℕ, ◌+◌, ◌<◌, Bool, true, false, ◌&&◌, List, [], ◌∷◌, refl, ap, sym, subst, ◌∙◌, arith, ◌||◌, if◌then◌else◌, length, find, Option, Some, None, option_map, is_some, ℤ, nat_tests, same_text, LotId, ACTS_MAX, Key, OrderLine, Ship, LineRow, StagedRow, Act, next_number, balance, is_lot, is_stage, of_item, postings, has_line, lines_of, shipments_so_far, staged_of_lot, shipped_of, IsHistory, tables_of, meta_row, if_any, line_row, staged_row, is_touched, AreRows, OrderLot, same_share, IsSlice, names_order, changed, unless_put, unless_emptied, capped, number_seen, staged_seen, lines_seen, shipment_seen, meta_shipped, line_shipped, lines_shipped, Slice, and_both, same_text_is, same_text_refl, same_text_turned, is_lot_is, any_found, room_for_acts, legal_history, unknown_line_is_unstaged, served_is, served_within_ordered, ordered_within_limit, shipments_within_acts, stage_after, shipped_after, of_postings}
 use Rattle.rules.proofs.rows.FoundRows.{found_passes, found_own, same_finds, find_never, find_kept, find_mapped}
 use Rattle.rules.proofs.rows.OrderTold.{found_line_row}
 use Rattle.rules.proofs.rows.DemandsTold.{staged_same}

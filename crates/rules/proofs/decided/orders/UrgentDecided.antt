@@ -1,29 +1,5 @@
 -- Urgent orders are decided as the machine decides them.
-use Rattle.std.proofs.Common.{◌≡◌, ℕ, true, false, ◌&&◌, not, List, [], ◌∷◌, refl, ap, ◌∙◌}
-use Rattle.std.specs.Prelude.{◌||◌, ℤ, Some, Result}
-use Rattle.std.specs.List.{list_any}
-use Rattle.values.specs.Values.{same_text}
-use Rattle.commands.specs.declared.key.Key.{Key}
-use Rattle.commands.specs.declared.command.OrderLine.{OrderLine}
-use Rattle.commands.specs.declared.command.NewOrder.{NewOrder}
-use Rattle.commands.specs.declared.command.Command.TheVariants.{Urgent}
-use Rattle.commands.specs.Replies.{reply_text}
-use Rattle.commands.specs.declared.replies.ReplyField.TheVariants.{UnitsShort}
-use Rattle.machine.specs.Acts.{Act}
-use Rattle.machine.specs.Once.{IsHistory}
-use Rattle.machine.specs.Tables.{tables_of}
-use Rattle.machine.specs.KeyedRows.{no_two}
-use Rattle.machine.specs.Verdict.{names_item_twice}
-use Rattle.rules.specs.Slices.{IsSlice, applied}
-use Rattle.row_rules.specs.Seen.{number_seen, none_put, none_dropped}
-use Rattle.row_rules.specs.Plans.{is_share_of}
-use Rattle.order_rules.specs.DecidedOrder.{new_order_row, new_line_rows, order_seen}
-use Rattle.order_rules.specs.DecidedUrgent.{new_urgent_row, lines_with, items_ordered, urgent_put, urgent_dropped, short_with, urgent_changes}
-use Rattle.row_rules.specs.declared.slice.Slice.{Slice}
-use Rattle.row_rules.specs.declared.slice.Change.{Change}
-use Rattle.row_rules.specs.declared.slice.RuleFault.{RuleFault}
-use Rattle.machine.proofs.Tests.{or_none}
-use Rattle.machine.proofs.histories.Accepted.{room_for_acts}
+use Rattle.rules.proofs.Words.{◌≡◌, ℕ, true, false, ◌&&◌, not, List, [], ◌∷◌, refl, ap, ◌∙◌, ◌||◌, ℤ, Some, Result, list_any, same_text, Key, OrderLine, NewOrder, Urgent, reply_text, UnitsShort, Act, IsHistory, tables_of, no_two, names_item_twice, IsSlice, applied, number_seen, none_put, none_dropped, is_share_of, new_line_rows, order_seen, items_ordered, urgent_put, urgent_dropped, short_with, urgent_changes, Slice, Change, RuleFault, or_none, room_for_acts, rows_after_urgent}
 use Rattle.rules.proofs.rows.TableSteps.{AreNamed, names_changed, reserved_changed}
 use Rattle.rules.proofs.rows.DaysAsked.{earliest_told}
 use Rattle.rules.proofs.rows.replanned.EachItem.{items_replanned, items_put_once}
@@ -61,14 +37,12 @@ module _ (first : ℤ) (acts : List Act) (key : Key) (o : NewOrder) (s : Slice) 
 
   are_named : AreNamed first act acts (urgent_put s o) (urgent_dropped s o)
   are_named =
-      items_replanned (λ (g : List ℕ). g) first acts act s slice refl next (items_ordered o.lines) apart (λ g. any_item g o.lines) s.meta.day s.rows.least (earliest_told first acts act s slice refl next.0)
-      (new_order_row s o ∷ s.rows.orders) (lines_with s o) s.rows.staged (new_urgent_row s o ∷ s.rows.urgents) s.rows.lots s.rows.recalls s.rows.bins s.rows.stock
+      items_replanned (λ (g : List ℕ). g) first acts act s slice refl next (items_ordered o.lines) apart (λ g. any_item g o.lines) s.meta.day (rows_after_urgent s o) (earliest_told first acts act s slice refl next.0)
       (demands_after first acts key o s slice next) (supplies_after first acts key o s slice next)
 
   put_once : no_two is_share_of (urgent_put s o) ≡ true
   put_once =
-      items_put_once (λ (g : List ℕ). g) first acts act s slice refl next (items_ordered o.lines) apart (λ g. any_item g o.lines) s.meta.day s.rows.least (earliest_told first acts act s slice refl next.0)
-      (new_order_row s o ∷ s.rows.orders) (lines_with s o) s.rows.staged (new_urgent_row s o ∷ s.rows.urgents) s.rows.lots s.rows.recalls s.rows.bins s.rows.stock
+      items_put_once (λ (g : List ℕ). g) first acts act s slice refl next (items_ordered o.lines) apart (λ g. any_item g o.lines) s.meta.day (rows_after_urgent s o) (earliest_told first acts act s slice refl next.0)
       (demands_after first acts key o s slice next) (supplies_after first acts key o s slice next)
 
   -- what is made of the rows is the change of the act

@@ -1,35 +1,5 @@
 -- The reply to an urgent order says what its plans leave short: all that is reserved for it is among the rows that are put.
-use Rattle.std.proofs.Common.{◌≡◌, ℕ, ◌+◌, ◌-◌, ◌*◌, ◌≤◌, true, false, List, [], ◌∷◌, ◌++◌, refl, ap, sym, ◌∙◌, arith, eq-eqb}
-use Rattle.std.specs.Prelude.{◌==◌, if◌then◌else◌, ℤ, Some, find, map, is_some, codes, decimal}
-use Rattle.values.specs.Values.{QTY_MAX, same_text}
-use Rattle.commands.specs.Lists.{total}
-use Rattle.commands.specs.declared.limits.TheConstants.{ORDER_LINES_MAX}
-use Rattle.commands.specs.declared.key.Key.{Key}
-use Rattle.commands.specs.declared.command.OrderLine.{OrderLine}
-use Rattle.commands.specs.declared.command.NewOrder.{NewOrder}
-use Rattle.commands.specs.declared.command.Command.TheVariants.{Urgent}
-use Rattle.commands.specs.declared.rows.ReservedRow.{ReservedRow}
-use Rattle.commands.specs.Replies.{reply_text}
-use Rattle.commands.specs.declared.replies.ReplyField.TheVariants.{UnitsShort}
-use Rattle.plan.specs.Overlap.{reserved_for}
-use Rattle.machine.specs.Acts.{Act, next_number}
-use Rattle.machine.specs.Standing.{Placed, orders, has_order}
-use Rattle.machine.specs.Planning.{Booking, booking_of, lines_of_item, item_postings, need, demands, supplies, plan, short_of_order}
-use Rattle.machine.specs.Once.{IsHistory}
-use Rattle.machine.specs.Replies.{reply, short_field}
-use Rattle.machine.specs.Tables.{tables_of}
-use Rattle.machine.specs.Touched.{is_touched}
-use Rattle.rules.specs.Slices.{IsSlice}
-use Rattle.row_rules.specs.Seen.{capped, number_seen}
-use Rattle.order_rules.specs.DecidedUrgent.{items_ordered, urgent_replanned, urgent_put, short_with, new_urgent_row, lines_with}
-use Rattle.order_rules.specs.DecidedOrder.{new_order_row}
-use Rattle.row_rules.specs.declared.slice.Slice.{Slice}
-use Rattle.machine.proofs.Tests.{same_text_refl}
-use Rattle.machine.proofs.Apart.{AllFound, any_found}
-use Rattle.machine.proofs.histories.NewOrders.{new_is_not_named}
-use Rattle.machine.proofs.histories.Orders.{orders_numbered}
-use Rattle.machine.proofs.histories.Reservations.{served_within_need}
-use Rattle.machine.proofs.histories.Served.{demands_told}
+use Rattle.rules.proofs.Words.{◌≡◌, ℕ, ◌+◌, ◌-◌, ◌*◌, ◌≤◌, true, false, List, [], ◌∷◌, ◌++◌, refl, ap, sym, ◌∙◌, arith, eq-eqb, ◌==◌, if◌then◌else◌, ℤ, Some, find, map, is_some, codes, decimal, QTY_MAX, same_text, total, ORDER_LINES_MAX, Key, OrderLine, NewOrder, Urgent, ReservedRow, reply_text, UnitsShort, reserved_for, Act, next_number, Placed, orders, has_order, Booking, booking_of, lines_of_item, item_postings, need, demands, supplies, plan, short_of_order, IsHistory, reply, short_field, tables_of, is_touched, IsSlice, capped, number_seen, items_ordered, urgent_replanned, urgent_put, short_with, Slice, same_text_refl, AllFound, any_found, new_is_not_named, orders_numbered, served_within_need, demands_told, rows_after_urgent}
 use Rattle.rules.proofs.rows.BookingSums.{total_flat_map}
 use Rattle.rules.proofs.rows.DaysAsked.{earliest_told}
 use Rattle.rules.proofs.rows.DemandsTold.{listed, line_found}
@@ -94,8 +64,8 @@ module _ (first : ℤ) (acts : List Act) (key : Key) (o : NewOrder) (s : Slice) 
     -- and is put
     line_put : total (λ (r : ReservedRow). if same_text o.order r.order then r.qty else 0) (urgent_replanned s o g).put ≡ served l
     line_put =
-        put_units first acts act s slice refl next g touched s.meta.day s.rows.least (earliest_told first acts act s slice refl next.0 g touched) (new_order_row s o ∷ s.rows.orders) (lines_with s o) s.rows.staged
-        (new_urgent_row s o ∷ s.rows.urgents) s.rows.lots s.rows.recalls s.rows.bins s.rows.stock (demands_after first acts key o s slice next g touched) (supplies_after first acts key o s slice next g touched)
+        put_units first acts act s slice refl next g touched s.meta.day (rows_after_urgent s o) (earliest_told first acts act s slice refl next.0 g touched)
+        (demands_after first acts key o s slice next g touched) (supplies_after first acts key o s slice next g touched)
         own (new_is_not_named first acts next.0 o.order new) (named_own first acts key o true o.order (same_text_refl o.order))
 
   lines_split : (ls : List OrderLine) → AllFound same_item o.lines ls → total (λ l. l.qty - served l) ls + total served ls ≡ total (λ l. l.qty) ls

@@ -1,29 +1,5 @@
 -- The rows of a slice with those of an urgent order tell the demands and supplies of each of its items after the act.
-use Rattle.std.proofs.Common.{◌≡◌, ℕ, Bool, true, false, ◌&&◌, List, [], ◌∷◌, refl, ap, sym, subst, ◌∙◌}
-use Rattle.std.specs.Prelude.{◌||◌, if◌then◌else◌, ℤ, Some, None, find, map, option_map}
-use Rattle.std.specs.List.{list_any}
-use Rattle.values.specs.Values.{same_text}
-use Rattle.commands.specs.declared.key.Key.{Key}
-use Rattle.commands.specs.declared.command.OrderLine.{OrderLine}
-use Rattle.commands.specs.declared.command.NewOrder.{NewOrder}
-use Rattle.commands.specs.declared.command.Command.TheVariants.{Urgent}
-use Rattle.commands.specs.declared.rows.OrderState.TheVariants.{Open}
-use Rattle.commands.specs.declared.rows.OrderRow.{OrderRow}
-use Rattle.commands.specs.declared.rows.UrgentRow.{UrgentRow}
-use Rattle.commands.specs.declared.rows.LineRow.{LineRow}
-use Rattle.machine.specs.Acts.{Act}
-use Rattle.machine.specs.Standing.{Placed, has_order, has_line, lines_of, lines_placed, order_named}
-use Rattle.machine.specs.Planning.{is_open, is_open_state, order_state}
-use Rattle.machine.specs.Once.{IsHistory}
-use Rattle.machine.specs.Tables.{tables_of, if_urgent, order_row, line_row, urgent_row}
-use Rattle.machine.specs.Touched.{is_touched}
-use Rattle.machine.specs.KeyedRows.{AreRows, OrderItem, same_line}
-use Rattle.rules.specs.Slices.{IsSlice, has_touched_line}
-use Rattle.order_rules.specs.DecidedOrder.{new_order_row, new_line_rows}
-use Rattle.order_rules.specs.DecidedUrgent.{new_urgent_row, lines_with}
-use Rattle.row_rules.specs.declared.slice.Slice.{Slice}
-use Rattle.machine.proofs.Tests.{and_both, or_first, same_text_is, same_text_refl, same_text_turned}
-use Rattle.machine.proofs.histories.NewOrders.{new_is_not_named}
+use Rattle.rules.proofs.Words.{◌≡◌, ℕ, Bool, true, false, ◌&&◌, List, [], ◌∷◌, refl, ap, sym, subst, ◌∙◌, ◌||◌, if◌then◌else◌, ℤ, Some, None, find, map, option_map, list_any, same_text, Key, OrderLine, NewOrder, Urgent, Open, OrderRow, UrgentRow, LineRow, Act, Placed, has_order, has_line, lines_of, lines_placed, order_named, is_open, is_open_state, order_state, IsHistory, tables_of, if_urgent, order_row, line_row, urgent_row, is_touched, AreRows, OrderItem, same_line, IsSlice, has_touched_line, new_line_rows, lines_with, Slice, and_both, or_first, same_text_is, same_text_refl, same_text_turned, new_is_not_named, Rows, rows_after_urgent}
 use Rattle.rules.proofs.rows.AfterRows.{loosened}
 use Rattle.rules.proofs.rows.AddedRows.{AllNew, with_rows, all_added}
 use Rattle.rules.proofs.rows.SameKeys.{same_line_is, same_line_refl, same_line_turned}
@@ -60,7 +36,7 @@ module _ (first : ℤ) (acts : List Act) (key : Key) (o : NewOrder) (s : Slice) 
   open_before q e still = sym (ap is_open_state (state_same first acts key o true q e)) ∙ still
 
   module _ (g : List ℕ) (touched : is_touched first act acts g ≡ true) where
-    before : TellsDemands first acts g s.rows.orders s.rows.lines s.rows.staged s.rows.urgents
+    before : TellsDemands first acts g s.rows
     before = slice_tells_demands first acts act s slice refl g touched
 
     touched_item : (h : List ℕ) → same_text g h ≡ true → is_touched first act acts h ≡ true
@@ -142,17 +118,19 @@ module _ (first : ℤ) (acts : List Act) (key : Key) (o : NewOrder) (s : Slice) 
           | false ↦ λ t. before.urgents q (was_wanted q t e)
         ] refl
 
-    tells : TellsDemands first after g (row ∷ s.rows.orders) (lines_with s o) s.rows.staged (urgent ∷ s.rows.urgents)
+    abbrev rows_with : OrderRow → UrgentRow → Rows
+    rows_with placed marked = record s.rows { orders = placed ∷ s.rows.orders; lines = lines_with s o; urgents = marked ∷ s.rows.urgents }
+
+    tells : TellsDemands first after g (rows_with row urgent)
     tells = record { orders = orders_after; lines = lines_after; staged = before.staged; urgents = urgents_after }
 
     -- with the rows as they are seen
-    pub demands_after : TellsDemands first after g (new_order_row s o ∷ s.rows.orders) (lines_with s o) s.rows.staged (new_urgent_row s o ∷ s.rows.urgents)
+    pub demands_after : TellsDemands first after g (rows_after_urgent s o)
     demands_after =
-        let P : ℕ → Type 0 = λ n.
-        TellsDemands first after g (record { order = o.order; act = n; customer = o.customer; state = Open } ∷ s.rows.orders) (lines_with s o) s.rows.staged (record { order = o.order; act = n } ∷ s.rows.urgents) in
+        let P : ℕ → Type 0 = λ n. TellsDemands first after g (rows_with (record { order = o.order; act = n; customer = o.customer; state = Open }) (record { order = o.order; act = n })) in
         subst P (sym (number_is first acts key o true s slice next)) tells
 
-    pub supplies_after : TellsSupplies first after g s.rows.lots s.rows.recalls s.rows.stock s.rows.bins
+    pub supplies_after : TellsSupplies first after g (rows_after_urgent s o)
     supplies_after =
         let same = slice_tells_supplies first acts act s slice refl g touched in
         record { lots = same.lots; recalls = same.recalls; stock = same.stock; bins = same.bins }

@@ -1,35 +1,6 @@
 -- Pickings are decided as the machine decides them.
-use Rattle.std.proofs.Common.{◌≡◌, ℕ, ◌+◌, ◌-◌, ◌≤◌, ◌<◌, Bool, true, false, ◌&&◌, List, [], ◌∷◌, refl, ap, sym, subst, ◌∙◌, arith}
-use Rattle.std.specs.Prelude.{◌==◌, ◌||◌, if◌then◌else◌, ℤ, Result}
-use Rattle.values.specs.Values.{same_text, is_name, is_qty}
-use Rattle.values.specs.declared.lot.LotId.{LotId}
-use Rattle.commands.specs.Sound.{is_lot_id}
-use Rattle.commands.specs.declared.key.Key.{Key}
-use Rattle.commands.specs.declared.command.Picking.{Picking}
-use Rattle.commands.specs.declared.command.Command.TheVariants.{Pick}
-use Rattle.commands.specs.declared.rows.ReservedRow.{ReservedRow}
-use Rattle.commands.specs.declared.rows.StockRow.{StockRow}
-use Rattle.commands.specs.declared.rows.StagedRow.{StagedRow}
-use Rattle.machine.specs.Acts.{Act, next_number}
-use Rattle.machine.specs.Postings.{InBin, Stage, is_lot}
-use Rattle.machine.specs.Ledger.{posting}
-use Rattle.machine.specs.Planning.{in_bin, staged_of_lot, reserved}
-use Rattle.machine.specs.Once.{IsHistory}
-use Rattle.machine.specs.Tables.{tables_of, stock_row, staged_row}
-use Rattle.machine.specs.KeyedRows.{LotBin, OrderLot, same_cell, same_share}
-use Rattle.rules.specs.Slices.{IsSlice}
-use Rattle.shelves.specs.PostedChanges.{no_facts, staged_after}
-use Rattle.row_rules.specs.SeenStages.{reserved_found, reserved_put, reserved_gone}
-use Rattle.order_rules.specs.DecidedPick.{pick_seen, pick_told, pick_changes, reserved_left, own_lowered}
-use Rattle.row_rules.specs.declared.slice.Slice.{Slice}
-use Rattle.row_rules.specs.declared.slice.Change.{Change}
-use Rattle.row_rules.specs.declared.slice.RuleFault.{RuleFault}
-use Rattle.shelves.specs.declared.posting.Place.TheVariants as told
-use Rattle.shelves.specs.Shelf.{bins, stages}
-use Rattle.machine.proofs.Tests.{and_both, or_first, same_text_is, same_text_refl, is_lot_is, is_lot_refl, is_lot_item}
-use Rattle.machine.proofs.histories.Accepted.{room_for_acts}
-use Rattle.machine.proofs.histories.Picks.{pick_disturbs_none}
-use Rattle.machine.proofs.histories.Quantities.{at_least_one}
+use Rattle.rules.proofs.Words.{◌≡◌, ℕ, ◌+◌, ◌-◌, ◌≤◌, ◌<◌, Bool, true, false, ◌&&◌, List, [], ◌∷◌, refl, ap, sym, subst, ◌∙◌, arith, ◌==◌, ◌||◌, if◌then◌else◌, ℤ, Result, same_text, is_name, is_qty, LotId, is_lot_id, Key, Picking, Pick, ReservedRow, StockRow, StagedRow, Act, next_number, InBin, Stage, is_lot, posting, in_bin, staged_of_lot, reserved, IsHistory, tables_of, stock_row, staged_row, LotBin, OrderLot, same_cell, same_share, IsSlice, no_facts, staged_after, reserved_found, reserved_put, reserved_gone, pick_seen, pick_told, pick_changes, reserved_left, own_lowered, Slice, Change, RuleFault, bins, stages, and_both, or_first, same_text_is, same_text_refl, is_lot_is, is_lot_refl, is_lot_item, room_for_acts, pick_disturbs_none, at_least_one}
+use Rattle.rules.specs.declared.posting.Place.TheVariants as told
 use Rattle.rules.proofs.rows.AfterRows.{loosened}
 use Rattle.rules.proofs.rows.SameKeys.{same_cell_refl, same_share_refl}
 use Rattle.rules.proofs.rows.StageTold.{found_reserved, reserved_told}

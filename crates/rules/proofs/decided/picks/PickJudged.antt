@@ -1,23 +1,5 @@
 -- A picking judged by its slice is judged as by the acts.
-use Rattle.std.proofs.Common.{◌≡◌, true, ◌&&◌, not, List, [], ◌∷◌, refl, ap, ◌∙◌}
-use Rattle.std.specs.Prelude.{nat_lt, ℤ}
-use Rattle.values.specs.Values.{same_text}
-use Rattle.commands.specs.declared.key.Key.{Key}
-use Rattle.commands.specs.declared.command.Picking.{Picking}
-use Rattle.commands.specs.declared.command.Command.TheVariants.{Pick}
-use Rattle.commands.specs.declared.refusal.Refusal.TheVariants.{UnknownItem, UnknownBin, UnknownLot, UnknownOrder, NoSuchLine, LotRecalled, LotExpired, TooFewDays, LotHeld, NotStoreBin, OrderClosed, NotInBin, OverReserved}
-use Rattle.machine.specs.Acts.{Act}
-use Rattle.machine.specs.Postings.{is_lot}
-use Rattle.machine.specs.Standing.{lot_known, today, least_days}
-use Rattle.machine.specs.Once.{IsHistory}
-use Rattle.machine.specs.Tables.{tables_of}
-use Rattle.rules.specs.Slices.{IsSlice}
-use Rattle.row_rules.specs.Seen.{lot_seen}
-use Rattle.row_rules.specs.Status.{is_past_row, is_below_row, least_seen}
-use Rattle.machine.specs.Verdict.{first_refusal, judgement, is_past, is_below}
-use Rattle.order_rules.specs.DecidedPick.{pick_seen}
-use Rattle.row_rules.specs.declared.slice.Slice.{Slice}
-use Rattle.machine.proofs.Tests.{same_text_refl, is_lot_refl}
+use Rattle.rules.proofs.Words.{◌≡◌, true, ◌&&◌, not, List, [], ◌∷◌, refl, ap, ◌∙◌, nat_lt, ℤ, same_text, Key, Picking, Pick, UnknownItem, UnknownBin, UnknownLot, UnknownOrder, NoSuchLine, LotRecalled, LotExpired, TooFewDays, LotHeld, NotStoreBin, OrderClosed, NotInBin, OverReserved, Act, is_lot, lot_known, today, least_days, IsHistory, tables_of, IsSlice, lot_seen, is_past_row, is_below_row, least_seen, first_refusal, judgement, is_past, is_below, pick_seen, Slice, same_text_refl, is_lot_refl}
 use Rattle.rules.proofs.decided.Decisions.{day_seen}
 use Rattle.rules.proofs.rows.DaysAsked.{days_told}
 use Rattle.rules.proofs.rows.SliceTells.{item_told, bin_told, recall_told}

@@ -1,22 +1,6 @@
 -- Units put back are decided as the machine decides them.
-use Rattle.std.proofs.Common.{List, ◌∷◌, refl}
-use Rattle.std.specs.Prelude.{ℤ, Result}
-use Rattle.commands.specs.declared.key.Key.{Key}
-use Rattle.commands.specs.declared.command.Picking.{Picking}
-use Rattle.commands.specs.declared.command.Command.TheVariants.{Unpick}
-use Rattle.machine.specs.Acts.{Act, next_number}
-use Rattle.machine.specs.Postings.{InBin, Stage}
-use Rattle.machine.specs.Once.{IsHistory}
-use Rattle.machine.specs.Tables.{tables_of}
-use Rattle.rules.specs.Slices.{IsSlice}
-use Rattle.shelves.specs.PostedChanges.{no_facts, staged_after}
-use Rattle.order_rules.specs.DecidedPick.{unpick_seen, unpick_told, unpick_changes}
-use Rattle.row_rules.specs.declared.slice.Slice.{Slice}
-use Rattle.row_rules.specs.declared.slice.Change.{Change}
-use Rattle.row_rules.specs.declared.slice.RuleFault.{RuleFault}
-use Rattle.shelves.specs.declared.posting.Place.TheVariants as told
-use Rattle.machine.proofs.Tests.{same_text_refl, is_lot_refl}
-use Rattle.machine.proofs.histories.Accepted.{room_for_acts}
+use Rattle.rules.proofs.Words.{List, ◌∷◌, refl, ℤ, Result, Key, Picking, Unpick, Act, next_number, InBin, Stage, IsHistory, tables_of, IsSlice, no_facts, staged_after, unpick_seen, unpick_told, unpick_changes, Slice, Change, RuleFault, same_text_refl, is_lot_refl, room_for_acts}
+use Rattle.rules.specs.declared.posting.Place.TheVariants as told
 use Rattle.rules.proofs.rows.PostedRows.{each_once, puts_none}
 use Rattle.rules.proofs.decided.Decisions.{AreRight, IsChange, plain_same}
 use Rattle.rules.proofs.decided.Posted.{IsOwn, IsPosted, IsPlanned, AreFacts, no_line, posted_once, planned_changed, lots_stay}

@@ -1,18 +1,5 @@
 -- Units put back judged by their slice are judged as by the acts.
-use Rattle.std.proofs.Common.{◌≡◌, true, not, List, [], ◌∷◌, refl}
-use Rattle.std.specs.Prelude.{nat_lt, ℤ}
-use Rattle.values.specs.Values.{same_text}
-use Rattle.commands.specs.declared.key.Key.{Key}
-use Rattle.commands.specs.declared.command.Picking.{Picking}
-use Rattle.commands.specs.declared.command.Command.TheVariants.{Unpick}
-use Rattle.commands.specs.declared.refusal.Refusal.TheVariants.{UnknownItem, UnknownBin, UnknownLot, UnknownOrder, NoSuchLine, OrderClosed, OverStaged}
-use Rattle.machine.specs.Acts.{Act}
-use Rattle.machine.specs.Tables.{tables_of}
-use Rattle.rules.specs.Slices.{IsSlice}
-use Rattle.machine.specs.Verdict.{first_refusal, judgement}
-use Rattle.order_rules.specs.DecidedPick.{unpick_seen}
-use Rattle.row_rules.specs.declared.slice.Slice.{Slice}
-use Rattle.machine.proofs.Tests.{same_text_refl, is_lot_refl}
+use Rattle.rules.proofs.Words.{◌≡◌, true, not, List, [], ◌∷◌, refl, nat_lt, ℤ, same_text, Key, Picking, Unpick, UnknownItem, UnknownBin, UnknownLot, UnknownOrder, NoSuchLine, OrderClosed, OverStaged, Act, tables_of, IsSlice, first_refusal, judgement, unpick_seen, Slice, same_text_refl, is_lot_refl}
 use Rattle.rules.proofs.rows.SliceTells.{item_told, bin_told}
 use Rattle.rules.proofs.rows.OrderTold.{order_told, open_told, line_told}
 use Rattle.rules.proofs.rows.LotTold.{lot_known_told}

@@ -1,4 +1,4 @@
-use Rattle.rules.specs.Commands.{command_seen, command_changes}
+use Rattle.rules.proofs.Words.{command_seen, command_changes}
 use Rattle.rules.proofs.decided.Decisions.{decided, reserved_rows}
 use Rattle.rules.proofs.decided.EveryCommand.{every_right}
 use Rattle.rules.proofs.deciding.decide.Goals as goal

@@ -1,11 +1,4 @@
-use Rattle.std.proofs.Common.{◌≡◌, sym, ap, ◌∙◌}
-use Rattle.std.specs.Prelude.{Option}
-use Rattle.commands.specs.declared.refusal.Refusal.{Refusal}
-use Rattle.commands.specs.declared.command.Command.{Command}
-use Rattle.commands.specs.declared.command.Command.TheVariants.{Item, Bin, Receive, Move, Count, Adjust, Order, Cancel, Pick, Unpick, Ship, Hold, Release, Recall, OpenDay, Least, Urgent}
-use Rattle.machine.specs.Verdict.{first_refusal}
-use Rattle.row_rules.specs.declared.slice.Slice.{Slice}
-use Rattle.rules.specs.Commands.{command_seen}
+use Rattle.rules.proofs.Words.{◌≡◌, sym, ap, ◌∙◌, Option, Refusal, Command, Item, Bin, Receive, Move, Count, Adjust, Order, Cancel, Pick, Unpick, Ship, Hold, Release, Recall, OpenDay, Least, Urgent, first_refusal, Slice, command_seen}
 use Rattle.rules.proofs.deciding.judge.Goals as goal
 
 -- what is judged of a command that a match found to be another

@@ -1,17 +1,6 @@
 -- Rows of two plans, each without those that the other has: what they reserve for a booking on a lot is all that the plan reserves for it,
 -- or nothing, where both plans reserve the same.
-use Rattle.std.proofs.Common.{◌≡◌, ℕ, ◌+◌, ◌≤◌, Bool, true, false, ◌&&◌, not, List, [], ◌∷◌, refl, ap, sym, ◌∙◌, arith, inl, inr, eq-eqb}
-use Rattle.std.specs.Prelude.{◌==◌, ◌||◌, if◌then◌else◌, Option, Some, None, find, filter, ◌⊎◌}
-use Rattle.std.specs.List.{list_any}
-use Rattle.std.proofs.lemmas.Bool.{eqb-true}
-use Rattle.plan.specs.declared.Row.{Row}
-use Rattle.plan.specs.Overlap.{reserved_in}
-use Rattle.machine.specs.KeyedRows.{no_two}
-use Rattle.machine.proofs.Apart.{none_in_filter}
-use Rattle.machine.proofs.Numbers.{equal_turned}
-use Rattle.machine.proofs.Tests.{and_both, or_none, not_true}
-use Rattle.machine.proofs.histories.PlanRows.{same_pair, AllSome}
-use Rattle.row_rules.specs.Replanning.{same_row, rows_apart}
+use Rattle.rules.proofs.Words.{◌≡◌, ℕ, ◌+◌, ◌≤◌, Bool, true, false, ◌&&◌, not, List, [], ◌∷◌, refl, ap, sym, ◌∙◌, arith, inl, inr, eq-eqb, ◌==◌, ◌||◌, if◌then◌else◌, Option, Some, None, find, filter, ◌⊎◌, list_any, eqb-true, Row, reserved_in, no_two, none_in_filter, equal_turned, and_both, or_none, not_true, or_false, same_pair, AllSome, same_row, rows_apart}
 use Rattle.rules.proofs.rows.replanned.Pairs.{none_else}
 
 -- Rows that are kept
@@ -126,14 +115,10 @@ module _ (b l : ℕ) where
   has_found r t (s ∷ ss) e =
       let two = and_both (not (list_any (same_pair s) ss)) (no_two same_pair ss) e in
       elim (pair s) as (λ c. pair s ≡ c → same_row r s || list_any (same_row r) ss ≡ has_units r.qty (if c then Some s else find pair ss)) [
-        | true ↦ λ u. (λ i. by_units u i || not_besides r s t u ss (not_true _ two.0) i) ∙ alone (r.qty == s.qty)
+        | true ↦ λ u. (λ i. by_units u i || not_besides r s t u ss (not_true _ two.0) i) ∙ or_false (r.qty == s.qty)
         | false ↦ λ u. ap (λ c. c || list_any (same_row r) ss) (other u) ∙ has_found r t ss two.1
       ] refl
     where
-      alone : (c : Bool) → c || false ≡ c
-      alone true = refl
-      alone false = refl
-
       by_units : pair s ≡ true → same_row r s ≡ (r.qty == s.qty)
       by_units u =
           let x = and_both (r.booking == b) (r.lot == l) t in

@@ -1,24 +1,6 @@
 -- Behind the first demands, for which one demand stands, the rows and shares that are not among others are those of the demands that
 -- follow: the one has none, since no order has its number.
-use Rattle.std.proofs.Common.{◌≡◌, ℕ, Bool, true, false, ◌&&◌, not, List, [], ◌∷◌, ◌++◌, take, drop, refl, ap, ◌∙◌, arith}
-use Rattle.std.specs.Prelude.{◌==◌, ◌||◌, if◌then◌else◌, ℤ, Some, None, find, filter}
-use Rattle.std.specs.List.{list_any, cons_option}
-use Rattle.commands.specs.declared.rows.OrderRow.{OrderRow}
-use Rattle.commands.specs.declared.rows.LotRow.{LotRow}
-use Rattle.plan.specs.declared.Demand.{Demand}
-use Rattle.plan.specs.declared.Supply.{Supply}
-use Rattle.plan.specs.declared.Row.{Row}
-use Rattle.plan.specs.Overlap.{Stretch, overlap, row_of, rows_of_demand, rows_from, supplies_laid, demand_total}
-use Rattle.plan.proofs.Parting.{one_in_front}
-use Rattle.machine.specs.Acts.{Act}
-use Rattle.machine.specs.Standing.{Placed, order_named}
-use Rattle.machine.specs.Planning.{order_state}
-use Rattle.machine.specs.Tables.{order_row}
-use Rattle.machine.specs.KeyedRows.{AreOwn}
-use Rattle.row_rules.specs.Plans.{named_row, named_rows}
-use Rattle.row_rules.specs.Replanning.{rows_behind, same_row, rows_apart, shares_apart}
-use Rattle.row_rules.proofs.RowsApart.{filter_append, any_append}
-use Rattle.machine.proofs.Numbers.{unequal_below}
+use Rattle.rules.proofs.Words.{◌≡◌, ℕ, Bool, true, false, ◌&&◌, not, List, [], ◌∷◌, ◌++◌, take, drop, refl, ap, ◌∙◌, arith, ◌==◌, ◌||◌, if◌then◌else◌, ℤ, Some, None, find, filter, list_any, cons_option, filter-append, list_any-append, OrderRow, LotRow, Demand, Supply, Row, Stretch, overlap, row_of, rows_of_demand, rows_from, supplies_laid, demand_total, one_in_front, Act, Placed, order_named, order_state, order_row, AreOwn, named_row, named_rows, rows_behind, same_row, rows_apart, shares_apart, unequal_below}
 use Rattle.rules.proofs.rows.Telling.{some_of_mapped}
 use Rattle.rules.proofs.rows.replanned.Known.{numbered_from_one}
 
@@ -63,7 +45,7 @@ pub behind_has : (r : Row) → (r.booking == 0) ≡ false → (n : ℕ) (ds : Li
     → list_any (same_row r) (rows_behind n ds ss) ≡ list_any (same_row r) (rows_from (demand_total (take n ds)) (drop n ds) ss)
 behind_has r e n ds ss =
     ap (list_any (same_row r)) (one_in_front n ds ss)
-    ∙ any_append (same_row r) (rows_of_demand (supplies_laid 0 ss) (one (demand_total (take n ds)))) (rows_from (demand_total (take n ds)) (drop n ds) ss)
+    ∙ list_any-append (same_row r) (rows_of_demand (supplies_laid 0 ss) (one (demand_total (take n ds)))) (rows_from (demand_total (take n ds)) (drop n ds) ss)
     ∙ ap (λ b. b || list_any (same_row r) (rows_from (demand_total (take n ds)) (drop n ds) ss)) (one_has_none r e (demand_total (take n ds)) (supplies_laid 0 ss))
 
 pub behind_are : (first : ℤ) (acts : List Act) (orders : List OrderRow) → AreOwn (λ (r : OrderRow). r.order) (λ o. true) (order_row first acts) orders
@@ -72,5 +54,5 @@ pub behind_are : (first : ℤ) (acts : List Act) (orders : List OrderRow) → Ar
 behind_are first acts orders own lots others n ds ss =
     let keep : Row → Bool = λ r. not (list_any (same_row r) others) in
     ap (λ rows. named_rows orders lots (rows_apart others rows)) (one_in_front n ds ss)
-    ∙ ap (named_rows orders lots) (filter_append keep (rows_of_demand (supplies_laid 0 ss) (one (demand_total (take n ds)))) (rows_from (demand_total (take n ds)) (drop n ds) ss))
+    ∙ ap (named_rows orders lots) (filter-append keep (rows_of_demand (supplies_laid 0 ss) (one (demand_total (take n ds)))) (rows_from (demand_total (take n ds)) (drop n ds) ss))
     ∙ unnamed orders lots (nobody first acts orders own) keep (rows_apart others (rows_from (demand_total (take n ds)) (drop n ds) ss)) (demand_total (take n ds)) (supplies_laid 0 ss)

@@ -1,46 +1,7 @@
 -- An item that an act touches, where the act plans: rows that tell the item's demands and supplies after the act tell, with those of the
 -- slice, which of its reserved rows differ. In front of the cut the plan stays, and so do the rows that are reserved; behind it those stay
 -- that both plans have.
-use Rattle.std.proofs.Common.{◌≡◌, ℕ, ◌+◌, Bool, true, false, ◌&&◌, not, List, ◌∷◌, ◌++◌, take, drop, refl, ap, sym, subst, ◌∙◌, inl, inr, arith}
-use Rattle.std.specs.Prelude.{◌==◌, ℤ, Option, Some, None, find, ◌⊎◌}
-use Rattle.std.specs.List.{list_any}
-use Rattle.std.proofs.lemmas.Bool.{eqb-true}
-use Rattle.values.specs.Values.{same_text}
-use Rattle.values.specs.declared.lot.LotId.{LotId}
-use Rattle.commands.specs.declared.rows.BinRow.{BinRow}
-use Rattle.commands.specs.declared.rows.LeastRow.{LeastRow}
-use Rattle.commands.specs.declared.rows.LotRow.{LotRow}
-use Rattle.commands.specs.declared.rows.RecallRow.{RecallRow}
-use Rattle.commands.specs.declared.rows.StockRow.{StockRow}
-use Rattle.commands.specs.declared.rows.OrderRow.{OrderRow}
-use Rattle.commands.specs.declared.rows.UrgentRow.{UrgentRow}
-use Rattle.commands.specs.declared.rows.LineRow.{LineRow}
-use Rattle.commands.specs.declared.rows.StagedRow.{StagedRow}
-use Rattle.commands.specs.declared.rows.ReservedRow.{ReservedRow}
-use Rattle.plan.specs.declared.Demand.{Demand}
-use Rattle.plan.specs.declared.Supply.{Supply}
-use Rattle.plan.specs.declared.Row.{Row}
-use Rattle.plan.specs.Overlap.{plan_rows, rows_from, demand_total, reserved_in}
-use Rattle.plan.specs.Changes.{cut_of}
-use Rattle.plan.proofs.Parting.{plan_parted}
-use Rattle.plan.proofs.Fronts.{kept_rows}
-use Rattle.plan.proofs.Counting.{cut_of_is_cut}
-use Rattle.machine.specs.Acts.{Act}
-use Rattle.machine.specs.Postings.{is_lot, of_item}
-use Rattle.machine.specs.Standing.{Placed, KnownLot, least_expiry, order_named, lot_known}
-use Rattle.machine.specs.Planning.{plan, reserved, reserved_of}
-use Rattle.machine.specs.Once.{IsHistory}
-use Rattle.machine.specs.Tables.{tables_of}
-use Rattle.machine.specs.Touched.{is_touched}
-use Rattle.machine.specs.KeyedRows.{no_two}
-use Rattle.machine.proofs.Numbers.{unequal_above}
-use Rattle.machine.proofs.Tests.{and_both}
-use Rattle.machine.proofs.histories.PlanRows.{same_pair, AllSome, plan_once, plan_some}
-use Rattle.rules.specs.Slices.{IsSlice, plans}
-use Rattle.row_rules.specs.Status.{earliest_seen}
-use Rattle.row_rules.specs.Plans.{demands_seen, supplies_seen, plan_within, named_rows, is_share_of}
-use Rattle.row_rules.specs.Replanning.{rows_behind, same_row, rows_apart, shares_apart, item_demands, item_supplies, item_replanned}
-use Rattle.row_rules.specs.declared.slice.Slice.{Slice}
+use Rattle.rules.proofs.Words.{◌≡◌, ℕ, ◌+◌, Bool, true, false, ◌&&◌, not, List, ◌∷◌, ◌++◌, take, drop, refl, ap, sym, subst, ◌∙◌, inl, inr, arith, ◌==◌, ℤ, Option, Some, None, find, ◌⊎◌, list_any, eqb-true, same_text, LotId, ReservedRow, Demand, Supply, Row, plan_rows, rows_from, demand_total, reserved_in, cut_of, plan_parted, kept_rows, cut_of_is_cut, Act, is_lot, of_item, Placed, KnownLot, least_expiry, order_named, lot_known, plan, reserved, reserved_of, IsHistory, tables_of, is_touched, no_two, unequal_above, and_both, same_pair, AllSome, plan_once, plan_some, IsSlice, plans, earliest_seen, plan_within, named_rows, is_share_of, rows_behind, same_row, rows_apart, shares_apart, item_demands, item_supplies, Slice, Rows, demands_in, supplies_in, replanned_to}
 use Rattle.rules.proofs.rows.TableSteps.{IsNamed, share_row, nothing_named}
 use Rattle.rules.proofs.rows.Differing.{named_of_item, named_elsewhere, put_once}
 use Rattle.rules.proofs.rows.ItemsNamed.{AllOf, all_of, kept_of}
@@ -59,9 +20,8 @@ use Rattle.rules.proofs.rows.replanned.Fronts.{part_same}
 use Rattle.rules.proofs.rows.replanned.Behind.{behind_has, behind_are}
 
 module _ (first : ℤ) (acts : List Act) (act : Act) (s : Slice) (slice : IsSlice first act acts (tables_of first acts) s) (planned : plans act.command ≡ true) (next : IsHistory first (act ∷ acts))
-    (g : List ℕ) (touched : is_touched first act acts g ≡ true) (day : ℤ) (least : List LeastRow) (from : earliest_seen day least g ≡ least_expiry first (act ∷ acts) g)
-    (orders : List OrderRow) (lines : List LineRow) (staged : List StagedRow) (urgents : List UrgentRow) (lots : List LotRow) (recalls : List RecallRow) (bins : List BinRow) (stock : List StockRow)
-    (demands : TellsDemands first (act ∷ acts) g orders lines staged urgents) (supplies : TellsSupplies first (act ∷ acts) g lots recalls stock bins) where
+    (g : List ℕ) (touched : is_touched first act acts g ≡ true) (day : ℤ) (rows : Rows) (from : earliest_seen day rows.least g ≡ least_expiry first (act ∷ acts) g)
+    (demands : TellsDemands first (act ∷ acts) g rows) (supplies : TellsSupplies first (act ∷ acts) g rows) where
   abbrev after : List Act
   after = act ∷ acts
 
@@ -74,10 +34,10 @@ module _ (first : ℤ) (acts : List Act) (act : Act) (s : Slice) (slice : IsSlic
   ss = item_supplies g (earliest_seen s.meta.day s.rows.least g) s.rows.recalls s.rows.bins s.rows.stock s.rows.lots
 
   abbrev es : List Demand
-  es = item_demands g lines staged urgents orders
+  es = item_demands g rows.lines rows.staged rows.urgents rows.orders
 
   abbrev ts : List Supply
-  ts = item_supplies g (earliest_seen day least g) recalls bins stock lots
+  ts = item_supplies g (earliest_seen day rows.least g) rows.recalls rows.bins rows.stock rows.lots
 
   abbrev kept : ℕ
   kept = cut_of ds ss es ts
@@ -104,21 +64,21 @@ module _ (first : ℤ) (acts : List Act) (act : Act) (s : Slice) (slice : IsSlic
   abbrev left_after : List Row
   left_after = rows_apart all_before behind_after
 
-  wanted : TellsDemands first acts g s.rows.orders s.rows.lines s.rows.staged s.rows.urgents
+  wanted : TellsDemands first acts g s.rows
   wanted = slice_tells_demands first acts act s slice planned g touched
 
-  offered : TellsSupplies first acts g s.rows.lots s.rows.recalls s.rows.stock s.rows.bins
+  offered : TellsSupplies first acts g s.rows
   offered = slice_tells_supplies first acts act s slice planned g touched
 
   plan_before : plan_rows ds ss ≡ plan first acts g
   plan_before =
-      (λ i. plan_within (demands_seen g s.rows.lines s.rows.staged s.rows.urgents s.rows.orders) (supplies_seen g (earliest_told first acts act s slice (no_shipment act.command planned) next.0 g touched i) s.rows.recalls s.rows.bins s.rows.stock s.rows.lots))
-      ∙ rows_tell_plan first acts next.0 g s.rows.orders s.rows.lines s.rows.staged s.rows.urgents s.rows.lots s.rows.recalls s.rows.stock s.rows.bins wanted offered
+      (λ i. plan_within (demands_in g s.rows) (supplies_in g (earliest_told first acts act s slice (no_shipment act.command planned) next.0 g touched i) s.rows))
+      ∙ rows_tell_plan first acts next.0 g s.rows wanted offered
 
   plan_after : plan_rows es ts ≡ plan first after g
   plan_after =
-      (λ i. plan_within (demands_seen g lines staged urgents orders) (supplies_seen g (from i) recalls bins stock lots))
-      ∙ rows_tell_plan first after next g orders lines staged urgents lots recalls stock bins demands supplies
+      (λ i. plan_within (demands_in g rows) (supplies_in g (from i) rows))
+      ∙ rows_tell_plan first after next g rows demands supplies
 
   parted_before : plan first acts g ≡ front ++ behind_before
   parted_before = sym plan_before ∙ plan_parted kept ds ss ∙ ap (λ rows. rows ++ behind_before) (kept_rows ds ss es ts kept (cut_of_is_cut ds ss es ts).front)
@@ -167,30 +127,30 @@ module _ (first : ℤ) (acts : List Act) (act : Act) (s : Slice) (slice : IsSlic
   olds = shares_apart s.rows.orders s.rows.lots all_after all_before
 
   abbrev news : List ReservedRow
-  news = shares_apart orders lots all_before all_after
+  news = shares_apart rows.orders rows.lots all_before all_after
 
   abbrev pub puts : List ReservedRow
-  puts = (item_replanned s day orders lines staged lots recalls bins stock least urgents g).put
+  puts = (replanned_to s day rows g).put
 
   abbrev pub drops : List ReservedRow
-  drops = (item_replanned s day orders lines staged lots recalls bins stock least urgents g).dropped
+  drops = (replanned_to s day rows g).dropped
 
   olds_are : olds ≡ named_rows s.rows.orders s.rows.lots left_before
   olds_are = behind_are first acts s.rows.orders wanted.orders.own s.rows.lots all_after kept ds ss
 
-  news_are : news ≡ named_rows orders lots left_after
-  news_are = behind_are first after orders demands.orders.own lots all_before kept es ts
+  news_are : news ≡ named_rows rows.orders rows.lots left_after
+  news_are = behind_are first after rows.orders demands.orders.own rows.lots all_before kept es ts
 
   olds_once : no_two is_share_of olds ≡ true
   olds_once =
       ap (no_two is_share_of) olds_are
-      ∙ behind_once first acts next.0 g s.rows.orders s.rows.lots s.rows.recalls s.rows.stock s.rows.bins wanted.orders.own offered left_before
+      ∙ behind_once first acts next.0 g s.rows wanted.orders.own offered left_before
       (some_kept is_left_before behind_before some_before) (once_kept is_left_before behind_before once_before) none_left_before
 
   news_once : no_two is_share_of news ≡ true
   news_once =
       ap (no_two is_share_of) news_are
-      ∙ behind_once first after next g orders lots recalls stock bins demands.orders.own supplies left_after
+      ∙ behind_once first after next g rows demands.orders.own supplies left_after
       (some_kept is_left_after behind_after some_after) (once_kept is_left_after behind_after once_after) none_left_after
 
   -- A lot of the item
@@ -222,25 +182,25 @@ module _ (first : ℤ) (acts : List Act) (act : Act) (s : Slice) (slice : IsSlic
 
     before_is : reserved first acts q l ≡ front_units + old_units
     before_is =
-        by_plan first acts next.0 g s.rows.orders s.rows.lots s.rows.recalls s.rows.stock s.rows.bins wanted.orders.own offered q l own (wanted.orders.found q)
+        by_plan first acts next.0 g s.rows wanted.orders.own offered q l own (wanted.orders.found q)
         ∙ ap (reserved_of (order_named acts q) (lot_known acts l)) parted_before ∙ of_parted (order_named acts q) (lot_known acts l) front behind_before
 
     after_is : reserved first after q l ≡ front_units + new_units
     after_is =
-        by_plan first after next g orders lots recalls stock bins demands.orders.own supplies q l own (demands.orders.found q)
+        by_plan first after next g rows demands.orders.own supplies q l own (demands.orders.found q)
         ∙ ap (reserved_of (order_named after q) (lot_known after l)) parted_after ∙ of_parted (order_named after q) (lot_known after l) front behind_after
         ∙ ap (λ n. n + new_units) front_stays
 
     old_found : find (λ (r : ReservedRow). same_text q r.order && is_lot l r.lot) olds ≡ share_row q l old_left
     old_found =
         ap (find (λ (r : ReservedRow). same_text q r.order && is_lot l r.lot)) olds_are
-        ∙ behind_told first acts next.0 g s.rows.orders s.rows.lots s.rows.recalls s.rows.stock s.rows.bins wanted.orders.own offered left_before
+        ∙ behind_told first acts next.0 g s.rows wanted.orders.own offered left_before
         (some_kept is_left_before behind_before some_before) (once_kept is_left_before behind_before once_before) none_left_before q l own (wanted.orders.found q)
 
     new_found : find (λ (r : ReservedRow). same_text q r.order && is_lot l r.lot) news ≡ share_row q l new_left
     new_found =
         ap (find (λ (r : ReservedRow). same_text q r.order && is_lot l r.lot)) news_are
-        ∙ behind_told first after next g orders lots recalls stock bins demands.orders.own supplies left_after
+        ∙ behind_told first after next g rows demands.orders.own supplies left_after
         (some_kept is_left_after behind_after some_after) (once_kept is_left_after behind_after once_after) none_left_after q l own (demands.orders.found q)
 
     -- all that is reserved behind is left, or nothing, where it is the same before and after
@@ -308,7 +268,7 @@ module _ (first : ℤ) (acts : List Act) (act : Act) (s : Slice) (slice : IsSlic
   none_after : (q : List ℕ) (l : LotId) → of_item g l ≡ false → find (λ (r : ReservedRow). same_text q r.order && is_lot l r.lot) news ≡ None
   none_after q l other =
       ap (find (λ (r : ReservedRow). same_text q r.order && is_lot l r.lot)) news_are
-      ∙ behind_elsewhere first after next g orders lots recalls stock bins demands.orders.own supplies left_after
+      ∙ behind_elsewhere first after next g rows demands.orders.own supplies left_after
       (some_kept is_left_after behind_after some_after) (once_kept is_left_after behind_after once_after) none_left_after q l other
 
   -- of it nothing is named

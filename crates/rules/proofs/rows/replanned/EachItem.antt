@@ -1,34 +1,5 @@
 -- An act that plans and touches several items: rows that tell the demands and supplies of each after the act tell which reserved rows differ.
-use Rattle.std.proofs.Common.{◌≡◌, ℕ, true, false, List, [], ◌∷◌, ap, sym, ◌∙◌}
-use Rattle.std.specs.Prelude.{◌||◌, ℤ, flat_map}
-use Rattle.std.specs.List.{list_any}
-use Rattle.values.specs.Values.{same_text}
-use Rattle.values.specs.declared.lot.LotId.{LotId}
-use Rattle.commands.specs.declared.rows.BinRow.{BinRow}
-use Rattle.commands.specs.declared.rows.LeastRow.{LeastRow}
-use Rattle.commands.specs.declared.rows.LotRow.{LotRow}
-use Rattle.commands.specs.declared.rows.RecallRow.{RecallRow}
-use Rattle.commands.specs.declared.rows.StockRow.{StockRow}
-use Rattle.commands.specs.declared.rows.OrderRow.{OrderRow}
-use Rattle.commands.specs.declared.rows.UrgentRow.{UrgentRow}
-use Rattle.commands.specs.declared.rows.LineRow.{LineRow}
-use Rattle.commands.specs.declared.rows.StagedRow.{StagedRow}
-use Rattle.commands.specs.declared.rows.ReservedRow.{ReservedRow}
-use Rattle.machine.specs.Acts.{Act}
-use Rattle.machine.specs.Postings.{of_item}
-use Rattle.machine.specs.Standing.{least_expiry}
-use Rattle.machine.specs.Planning.{reserved}
-use Rattle.machine.specs.Once.{IsHistory}
-use Rattle.machine.specs.Tables.{tables_of}
-use Rattle.machine.specs.Touched.{is_touched}
-use Rattle.machine.specs.KeyedRows.{no_two}
-use Rattle.rules.specs.Slices.{IsSlice, plans}
-use Rattle.row_rules.specs.Status.{earliest_seen}
-use Rattle.row_rules.specs.Plans.{is_share_of}
-use Rattle.row_rules.specs.Replanning.{item_replanned}
-use Rattle.row_rules.specs.declared.slice.Slice.{Slice}
-use Rattle.machine.proofs.Tests.{or_later, same_text_refl}
-use Rattle.machine.proofs.histories.Picks.{Each}
+use Rattle.rules.proofs.Words.{◌≡◌, ℕ, true, false, List, [], ◌∷◌, ap, sym, ◌∙◌, ◌||◌, ℤ, flat_map, list_any, same_text, LotId, ReservedRow, Act, of_item, least_expiry, reserved, IsHistory, tables_of, is_touched, no_two, IsSlice, plans, earliest_seen, is_share_of, Slice, or_later, same_text_refl, Each, Rows, replanned_to}
 use Rattle.rules.proofs.rows.TableSteps.{IsNamed, AreNamed}
 use Rattle.rules.proofs.rows.ItemsNamed.{AllOf, items_named, items_once}
 use Rattle.rules.proofs.rows.DemandsTold.{TellsDemands}
@@ -37,18 +8,16 @@ use Rattle.rules.proofs.rows.replanned.Changed.{own_named, none_named, all_put_o
 
 module _ {X : Type 0} (item : X → List ℕ) (first : ℤ) (acts : List Act) (act : Act) (s : Slice) (slice : IsSlice first act acts (tables_of first acts) s) (planned : plans act.command ≡ true) (next : IsHistory first (act ∷ acts))
     (all : List X) (apart : no_two (λ x y. same_text (item x) (item y)) all ≡ true) (touched_are : (g : List ℕ) → list_any (λ x. same_text g (item x)) all ≡ is_touched first act acts g)
-    (day : ℤ) (least : List LeastRow) (from : (g : List ℕ) → is_touched first act acts g ≡ true → earliest_seen day least g ≡ least_expiry first (act ∷ acts) g)
-    (orders : List OrderRow) (lines : List LineRow) (staged : List StagedRow) (urgents : List UrgentRow) (lots : List LotRow) (recalls : List RecallRow) (bins : List BinRow) (stock : List StockRow)
-    (demands : (g : List ℕ) → is_touched first act acts g ≡ true → TellsDemands first (act ∷ acts) g orders lines staged urgents)
-    (supplies : (g : List ℕ) → is_touched first act acts g ≡ true → TellsSupplies first (act ∷ acts) g lots recalls stock bins) where
+    (day : ℤ) (rows : Rows) (from : (g : List ℕ) → is_touched first act acts g ≡ true → earliest_seen day rows.least g ≡ least_expiry first (act ∷ acts) g)
+    (demands : (g : List ℕ) → is_touched first act acts g ≡ true → TellsDemands first (act ∷ acts) g rows) (supplies : (g : List ℕ) → is_touched first act acts g ≡ true → TellsSupplies first (act ∷ acts) g rows) where
   abbrev after : List Act
   after = act ∷ acts
 
   abbrev puts_of : List ℕ → List ReservedRow
-  puts_of g = (item_replanned s day orders lines staged lots recalls bins stock least urgents g).put
+  puts_of g = (replanned_to s day rows g).put
 
   abbrev drops_of : List ℕ → List ReservedRow
-  drops_of g = (item_replanned s day orders lines staged lots recalls bins stock least urgents g).dropped
+  drops_of g = (replanned_to s day rows g).dropped
 
   abbrev pub puts : List X → List ReservedRow
   puts xs = flat_map (λ x. puts_of (item x)) xs
@@ -58,16 +27,16 @@ module _ {X : Type 0} (item : X → List ℕ) (first : ℤ) (acts : List Act) (a
 
   module _ (g : List ℕ) (touched : is_touched first act acts g ≡ true) where
     own_of : (q : List ℕ) (l : LotId) → of_item g l ≡ true → IsNamed q l (reserved first acts q l) (reserved first after q l) (puts_of g) (drops_of g)
-    own_of = own_named first acts act s slice planned next g touched day least (from g touched) orders lines staged urgents lots recalls bins stock (demands g touched) (supplies g touched)
+    own_of = own_named first acts act s slice planned next g touched day rows (from g touched) (demands g touched) (supplies g touched)
 
     none_of : (q : List ℕ) (l : LotId) → of_item g l ≡ false → IsNamed q l 0 0 (puts_of g) (drops_of g)
-    none_of = none_named first acts act s slice planned next g touched day least (from g touched) orders lines staged urgents lots recalls bins stock (demands g touched) (supplies g touched)
+    none_of = none_named first acts act s slice planned next g touched day rows (from g touched) (demands g touched) (supplies g touched)
 
     all_of : AllOf g (puts_of g)
-    all_of = all_put_of first acts act s slice planned next g touched day least (from g touched) orders lines staged urgents lots recalls bins stock (demands g touched) (supplies g touched)
+    all_of = all_put_of first acts act s slice planned next g touched day rows (from g touched) (demands g touched) (supplies g touched)
 
     once_of : no_two is_share_of (puts_of g) ≡ true
-    once_of = puts_once first acts act s slice planned next g touched day least (from g touched) orders lines staged urgents lots recalls bins stock (demands g touched) (supplies g touched)
+    once_of = puts_once first acts act s slice planned next g touched day rows (from g touched) (demands g touched) (supplies g touched)
 
   abbrev IsTouched : X → Type 0
   IsTouched x = is_touched first act acts (item x) ≡ true

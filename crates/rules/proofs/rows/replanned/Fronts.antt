@@ -1,13 +1,5 @@
 -- Rows of a plan reserve the same for an order of a lot before and after the act.
-use Rattle.std.proofs.Common.{◌≡◌, ℕ, List, ◌∷◌, refl, ap, sym, ◌∙◌}
-use Rattle.std.specs.Prelude.{ℤ, Option, Some, None}
-use Rattle.values.specs.declared.lot.LotId.{LotId}
-use Rattle.plan.specs.declared.Row.{Row}
-use Rattle.plan.specs.Overlap.{reserved_in}
-use Rattle.machine.specs.Acts.{Act, next_number}
-use Rattle.machine.specs.Standing.{Placed, KnownLot, order_named, lot_known}
-use Rattle.machine.specs.Planning.{plan, reserved_of}
-use Rattle.machine.specs.Verdict.{verdict}
+use Rattle.rules.proofs.Words.{◌≡◌, ℕ, List, ◌∷◌, refl, ap, sym, ◌∙◌, ℤ, Option, Some, None, LotId, Row, reserved_in, Act, next_number, Placed, KnownLot, order_named, lot_known, plan, reserved_of, verdict}
 use Rattle.rules.proofs.rows.replanned.Known.{order_stays, order_comes, lot_stays, lot_comes}
 use Rattle.rules.proofs.rows.replanned.Unreserved.{next_lot_unreserved, next_order_unreserved}
 

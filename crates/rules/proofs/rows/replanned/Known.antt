@@ -1,17 +1,5 @@
 -- Orders and lots that are known stay as they are, and those that an act makes known have its number.
-use Rattle.std.proofs.Common.{◌≡◌, ℕ, ◌≤◌, Bool, true, false, List, [], ◌∷◌, refl, ap, sym, ◌∙◌, arith}
-use Rattle.std.specs.Prelude.{if◌then◌else◌, ℤ, Option, Some, None, find, is_some}
-use Rattle.std.specs.List.{cons_option}
-use Rattle.values.specs.Values.{same_text}
-use Rattle.values.specs.declared.lot.LotId.{LotId}
-use Rattle.commands.specs.declared.command.Command.{Command}
-use Rattle.commands.specs.declared.command.Command.TheVariants.{Order, Receive, Urgent}
-use Rattle.machine.specs.Acts.{Act, next_number}
-use Rattle.machine.specs.Postings.{is_lot}
-use Rattle.machine.specs.Standing.{Placed, KnownLot, order_in, orders, order_named, has_order, lots, lots_after, lot_among, lot_known}
-use Rattle.machine.specs.Verdict.{verdict}
-use Rattle.machine.proofs.Tests.{same_text_is, is_lot_is}
-use Rattle.machine.proofs.histories.Accepted.{order_accepted, urgent_accepted}
+use Rattle.rules.proofs.Words.{◌≡◌, ℕ, ◌≤◌, Bool, true, false, List, [], ◌∷◌, refl, ap, sym, ◌∙◌, arith, if◌then◌else◌, ℤ, Option, Some, None, find, is_some, cons_option, same_text, LotId, Command, Order, Receive, Urgent, Act, next_number, is_lot, Placed, KnownLot, order_in, orders, order_named, has_order, lots, lots_after, lot_among, lot_known, verdict, same_text_is, is_lot_is, order_accepted, urgent_accepted}
 
 -- Orders
 

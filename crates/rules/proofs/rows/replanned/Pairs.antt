@@ -1,16 +1,5 @@
 -- Rows of a plan in two parts: a pair of booking and lot has a row in one of them at most.
-use Rattle.std.proofs.Common.{◌≡◌, ℕ, ◌+◌, Bool, true, false, ◌&&◌, not, List, [], ◌∷◌, ◌++◌, refl, ap, sym, ◌∙◌, arith, inl, inr}
-use Rattle.std.specs.Prelude.{◌==◌, if◌then◌else◌, Option, Some, None, ◌⊎◌}
-use Rattle.std.specs.List.{list_any}
-use Rattle.std.proofs.lemmas.Bool.{eqb-true}
-use Rattle.plan.specs.declared.Row.{Row}
-use Rattle.plan.specs.Overlap.{reserved_in}
-use Rattle.plan.proofs.Sums.{total-append}
-use Rattle.machine.specs.Standing.{Placed, KnownLot}
-use Rattle.machine.specs.Planning.{reserved_of}
-use Rattle.machine.specs.KeyedRows.{no_two}
-use Rattle.machine.proofs.Tests.{and_both, or_none, not_true}
-use Rattle.machine.proofs.histories.PlanRows.{same_pair, AllSome}
+use Rattle.rules.proofs.Words.{◌≡◌, ℕ, ◌+◌, Bool, true, false, ◌&&◌, not, List, [], ◌∷◌, ◌++◌, refl, ap, sym, ◌∙◌, arith, inl, inr, ◌==◌, if◌then◌else◌, Option, Some, None, ◌⊎◌, list_any, eqb-true, Row, reserved_in, total-append, Placed, KnownLot, reserved_of, no_two, and_both, or_none, not_true, same_pair, AllSome}
 
 pub some_behind : (rs ss : List Row) → AllSome (rs ++ ss) → AllSome ss
 some_behind [] ss h = h

@@ -1,37 +1,5 @@
 -- What an act puts of an item's reserved rows for an order that had nothing reserved: it adds up to what the plan after it reserves for the order.
-use Rattle.std.proofs.Common.{◌≡◌, ℕ, ◌+◌, Bool, true, false, ◌&&◌, not, List, [], ◌∷◌, refl, ap, sym, subst, ◌∙◌}
-use Rattle.std.specs.Prelude.{◌==◌, if◌then◌else◌, ℤ, Option, Some, None, find}
-use Rattle.std.specs.List.{list_any}
-use Rattle.values.specs.Values.{same_text}
-use Rattle.values.specs.declared.lot.LotId.{LotId}
-use Rattle.commands.specs.Lists.{total}
-use Rattle.commands.specs.declared.rows.BinRow.{BinRow}
-use Rattle.commands.specs.declared.rows.LeastRow.{LeastRow}
-use Rattle.commands.specs.declared.rows.LotRow.{LotRow}
-use Rattle.commands.specs.declared.rows.RecallRow.{RecallRow}
-use Rattle.commands.specs.declared.rows.StockRow.{StockRow}
-use Rattle.commands.specs.declared.rows.OrderRow.{OrderRow}
-use Rattle.commands.specs.declared.rows.UrgentRow.{UrgentRow}
-use Rattle.commands.specs.declared.rows.LineRow.{LineRow}
-use Rattle.commands.specs.declared.rows.StagedRow.{StagedRow}
-use Rattle.commands.specs.declared.rows.ReservedRow.{ReservedRow}
-use Rattle.plan.specs.Overlap.{reserved_for}
-use Rattle.machine.specs.Acts.{Act}
-use Rattle.machine.specs.Postings.{is_lot, of_item}
-use Rattle.machine.specs.Standing.{Placed, least_expiry, order_named}
-use Rattle.machine.specs.Planning.{plan, reserved}
-use Rattle.machine.specs.Once.{IsHistory}
-use Rattle.machine.specs.Tables.{tables_of, reserved_row}
-use Rattle.machine.specs.Touched.{is_touched}
-use Rattle.machine.specs.KeyedRows.{AreRows, AreOwn, OrderLot, no_two, same_share}
-use Rattle.rules.specs.Slices.{IsSlice, plans, differs}
-use Rattle.row_rules.specs.Status.{earliest_seen}
-use Rattle.row_rules.specs.Plans.{is_share_of}
-use Rattle.row_rules.specs.Replanning.{item_replanned}
-use Rattle.row_rules.specs.declared.slice.Slice.{Slice}
-use Rattle.machine.proofs.Tests.{and_both, not_true, same_text_is, same_text_refl, same_text_turned, is_lot_refl, is_lot_turned}
-use Rattle.machine.proofs.Apart.{AreApart, AllFound, all_found}
-use Rattle.machine.proofs.histories.Needs.{unknown_is_unreserved}
+use Rattle.rules.proofs.Words.{◌≡◌, ℕ, ◌+◌, Bool, true, false, ◌&&◌, not, List, [], ◌∷◌, refl, ap, sym, subst, ◌∙◌, ◌==◌, if◌then◌else◌, ℤ, Option, Some, None, find, list_any, same_text, LotId, total, ReservedRow, reserved_for, Act, is_lot, of_item, Placed, least_expiry, order_named, plan, reserved, IsHistory, tables_of, reserved_row, is_touched, AreRows, AreOwn, OrderLot, no_two, same_share, IsSlice, plans, differs, earliest_seen, is_share_of, Slice, and_both, not_true, same_text_is, same_text_refl, same_text_turned, is_lot_refl, is_lot_turned, AreApart, AllFound, all_found, unknown_is_unreserved, Rows, replanned_to}
 use Rattle.rules.proofs.rows.TableSteps.{IsNamed, share_row}
 use Rattle.rules.proofs.rows.ItemsNamed.{AllOf}
 use Rattle.rules.proofs.rows.DemandsTold.{TellsDemands}
@@ -72,27 +40,26 @@ total_own o g (r ∷ rs) h = λ i. (both (same_text o r.order) ∙ ap (λ b. if 
     both false = refl
 
 module _ (first : ℤ) (acts : List Act) (act : Act) (s : Slice) (slice : IsSlice first act acts (tables_of first acts) s) (planned : plans act.command ≡ true) (next : IsHistory first (act ∷ acts))
-    (g : List ℕ) (touched : is_touched first act acts g ≡ true) (day : ℤ) (least : List LeastRow) (from : earliest_seen day least g ≡ least_expiry first (act ∷ acts) g)
-    (orders : List OrderRow) (lines : List LineRow) (staged : List StagedRow) (urgents : List UrgentRow) (lots : List LotRow) (recalls : List RecallRow) (bins : List BinRow) (stock : List StockRow)
-    (demands : TellsDemands first (act ∷ acts) g orders lines staged urgents) (supplies : TellsSupplies first (act ∷ acts) g lots recalls stock bins)
+    (g : List ℕ) (touched : is_touched first act acts g ≡ true) (day : ℤ) (rows : Rows) (from : earliest_seen day rows.least g ≡ least_expiry first (act ∷ acts) g)
+    (demands : TellsDemands first (act ∷ acts) g rows) (supplies : TellsSupplies first (act ∷ acts) g rows)
     (p : Placed) (fresh : order_named acts p.order ≡ None) (named : order_named (act ∷ acts) p.order ≡ Some p) where
   abbrev after : List Act
   after = act ∷ acts
 
   abbrev puts : List ReservedRow
-  puts = (item_replanned s day orders lines staged lots recalls bins stock least urgents g).put
+  puts = (replanned_to s day rows g).put
 
   abbrev drops : List ReservedRow
-  drops = (item_replanned s day orders lines staged lots recalls bins stock least urgents g).dropped
+  drops = (replanned_to s day rows g).dropped
 
   named_of : (q : List ℕ) (l : LotId) → of_item g l ≡ true → IsNamed q l (reserved first acts q l) (reserved first after q l) puts drops
-  named_of = own_named first acts act s slice planned next g touched day least from orders lines staged urgents lots recalls bins stock demands supplies
+  named_of = own_named first acts act s slice planned next g touched day rows from demands supplies
 
   once : no_two is_share_of puts ≡ true
-  once = puts_once first acts act s slice planned next g touched day least from orders lines staged urgents lots recalls bins stock demands supplies
+  once = puts_once first acts act s slice planned next g touched day rows from demands supplies
 
   all_of : AllOf g puts
-  all_of = all_put_of first acts act s slice planned next g touched day least from orders lines staged urgents lots recalls bins stock demands supplies
+  all_of = all_put_of first acts act s slice planned next g touched day rows from demands supplies
 
   all_own : (rs : List ReservedRow) → AllOf g rs → AllFound is_share_of puts rs → AreOwn {K = OrderLot} (λ (r : ReservedRow). (r.order, r.lot)) (λ k. true) (λ k. reserved_row first after k.0 k.1) rs
   all_own [] h k = tt

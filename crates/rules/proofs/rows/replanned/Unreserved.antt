@@ -1,29 +1,7 @@
 -- Numbers of lots and orders under which the plan of an item reserves nothing.
-use Rattle.std.proofs.Common.{◌≡◌, ℕ, ◌+◌, ◌≤◌, Bool, true, false, ◌&&◌, List, [], ◌∷◌, refl, ap, sym, ◌∙◌, arith}
-use Rattle.std.specs.Prelude.{◌==◌, if◌then◌else◌, ℤ, Some, filter, map}
-use Rattle.std.proofs.lemmas.Bool.{eqb-true}
-use Rattle.values.specs.Values.{same_text}
-use Rattle.values.specs.declared.lot.LotId.{LotId}
-use Rattle.commands.specs.Lists.{total}
-use Rattle.commands.specs.declared.command.OrderLine.{OrderLine}
-use Rattle.plan.specs.declared.Demand.{Demand}
-use Rattle.plan.specs.declared.Supply.{Supply}
-use Rattle.plan.specs.declared.Row.{Row}
-use Rattle.plan.specs.Overlap.{reserved_in, reserved_on}
-use Rattle.machine.specs.Acts.{Act, next_number}
-use Rattle.machine.specs.Postings.{of_item}
-use Rattle.machine.specs.Standing.{Placed, KnownLot, lot_known, lots, lots_of, orders, is_shippable}
-use Rattle.machine.specs.Planning.{booking_of, lines_of_item, need, demands, supplies, supply_of, shippable_lots, goes_before, item_postings, store_units, plan}
-use Rattle.machine.proofs.Apart.{AllFound}
-use Rattle.machine.proofs.Numbers.{equal_turned, unequal_above}
-use Rattle.machine.proofs.histories.Bookings.{wanted_by}
-use Rattle.machine.proofs.histories.Falling.{AllBelow, found_below}
-use Rattle.machine.proofs.histories.Lots.{same_known, lots_found, lots_numbered, receipt_names_lot}
-use Rattle.machine.proofs.histories.Orders.{orders_numbered}
-use Rattle.machine.proofs.histories.Served.{demands_told}
-use Rattle.machine.proofs.histories.Reservations.{there_under, wanted_under, reserved_within_need, reserved_within_supply}
+use Rattle.rules.proofs.Words.{◌≡◌, ℕ, ◌+◌, ◌≤◌, Bool, true, false, ◌&&◌, List, [], ◌∷◌, refl, ap, sym, ◌∙◌, arith, ◌==◌, if◌then◌else◌, ℤ, Some, filter, map, eqb-true, same_text, LotId, total, OrderLine, Demand, Supply, Row, reserved_in, reserved_on, Act, next_number, of_item, Placed, KnownLot, lot_known, lots, lots_of, orders, is_shippable, booking_of, lines_of_item, need, demands, supplies, supply_of, shippable_lots, goes_before, item_postings, store_units, plan, AllFound, equal_turned, unequal_above, wanted_by, AllBelow, found_below, same_known, lots_found, lots_numbered, receipt_names_lot, orders_numbered, demands_told, there_under, wanted_under, reserved_within_need, reserved_within_supply, total_kept}
 use Rattle.rules.proofs.rows.DemandsTold.{same_total}
-use Rattle.rules.proofs.rows.Ordering.{total_ordered, total_filter, total_map}
+use Rattle.rules.proofs.rows.Ordering.{total_ordered, total_map}
 
 -- Where the lot of a number has no units in STORE bins, the item's supplies have nothing under it
 
@@ -56,8 +34,8 @@ module _ (first : ℤ) (acts : List Act) (g : List ℕ) (n : ℕ) (empty : (j : 
       same_total (λ (x : Supply). if x.lot == n then x.avail else 0) (supplies first acts g)
       ∙ total_map (λ (x : Supply). if x.lot == n then x.avail else 0) (supply_of acts (item_postings first acts g)) (shippable_lots first acts g)
       ∙ total_ordered goes_before avail_of (filter (is_shippable first acts) (lots_of acts g))
-      ∙ total_filter avail_of (is_shippable first acts) (lots_of acts g)
-      ∙ total_filter (λ j. if is_shippable first acts j then avail_of j else 0) (λ j. of_item g j.lot) (lots acts)
+      ∙ total_kept avail_of (is_shippable first acts) (lots_of acts g)
+      ∙ total_kept (λ j. if is_shippable first acts j then avail_of j else 0) (λ j. of_item g j.lot) (lots acts)
       ∙ none_counted (lots acts) (lots_found acts)
 
   in_lot : (b : ℕ) (rows : List Row) → reserved_in b n rows ≤ reserved_on n rows

@@ -1,10 +1,4 @@
-use Rattle.std.proofs.Common.{sym, subst, ap, ◌∙◌, arith}
-use Rattle.std.specs.Prelude.{IsTrue}
-use Rattle.sqlite.specs.Held.{state}
-use Rattle.sqlite.specs.State.{HasCleanDisk}
-use Rattle.histories.specs.Printed.{IsHistoryPrinted}
-use Rattle.store.specs.Books.{KeepsBooks}
-use Rattle.store.proofs.HandedOn.{left_keeps}
+use Rattle.service.proofs.Words.{sym, subst, ap, ◌∙◌, arith, IsTrue, state, HasCleanDisk, IsHistoryPrinted, KeepsBooks, left_keeps}
 use Rattle.service.proofs.ActsPrinted.{acts_back}
 use Rattle.service.proofs.acts_text.print_acts.Goals as goal
 

@@ -1,7 +1,4 @@
-use Rattle.std.proofs.Common.{sym, subst}
-use Rattle.sqlite.specs.Held.{state}
-use Rattle.sqlite.specs.State.{HasCleanDisk}
-use Rattle.store.specs.Books.{KeepsBooks}
+use Rattle.service.proofs.Words.{sym, subst, state, HasCleanDisk, KeepsBooks}
 use Rattle.service.proofs.Printing.{sheet_held}
 use Rattle.service.proofs.books_lines.print_books.Goals as goal
 

@@ -1,8 +1,4 @@
-use Rattle.std.proofs.Common.{◌≡◌, ◌∙◌, sym, subst, inl}
-use Rattle.std.specs.Prelude.{All}
-use Rattle.goodsin.specs.Rows.{IsReceipt}
-use Rattle.house.proofs.FileTold.{receipts_have_keys}
-use Rattle.service.specs.Importing.{AreRead}
+use Rattle.service.proofs.Words.{◌≡◌, ◌∙◌, sym, subst, inl, All, IsReceipt, receipts_have_keys, AreRead}
 use Rattle.service.proofs.Importing.{read_as, fault_as, leaves_file, taken_by}
 use Rattle.service.proofs.goods_file.take_in.Goals as goal
 
@@ -28,7 +24,9 @@ returns-in-Ok-clause-leaves g c clean first acts history holds leaves =
     let same : rows ≡ c.in-Ok.rows = c.as_slice.ensures in
     let keys = receipts_have_keys rows (subst (λ l. All IsReceipt l) (sym same) c.in-Ok.ensures.kinds) in
     let done = c.act_all-done.ensures in
-    leaves_file g.S.Store first acts c.args.books.now c.act_all-done.new.self rows clean keys history holds (done.history keys first acts history) done.survives leaves
+    let from = g.R.Read.remaining c.args.file in
+    let read = read_as g.S.Store first acts from _ c.in-Ok.rows (c.day-today.ensures.value ∙ holds.day) c.in-Ok.ensures.file in
+    leaves_file g.S.Store first acts from c.args.books.now c.act_all-done.new.self rows (subst (λ l. AreRead g.S.Store first acts from l) (sym same) read) clean keys history holds (done.history keys first acts history) done.survives leaves
 
 pub returns-in-Err-clause-leaves : goal.returns-in-Err-clause-leaves
 returns-in-Err-clause-leaves g c clean first acts history holds leaves trees left = inl (leaves trees left)

@@ -1,6 +1,4 @@
-use Rattle.std.proofs.Common.{ap}
-use Rattle.machine.specs.Queries.{card_shown}
-use Rattle.texts.specs.Card.{card_text}
+use Rattle.service.proofs.Words.{ap, card_shown, card_text}
 use Rattle.service.proofs.Printing.{printed_back}
 use Rattle.service.proofs.lot_texts.print_card.Goals as goal
 

@@ -1,6 +1,4 @@
-use Rattle.std.proofs.Common.{ap}
-use Rattle.machine.specs.Queries.{notice_shown}
-use Rattle.texts.specs.Notice.{notice_text}
+use Rattle.service.proofs.Words.{ap, notice_shown, notice_text}
 use Rattle.service.proofs.Printing.{printed_back}
 use Rattle.service.proofs.lot_texts.print_notice.Goals as goal
 

@@ -1,8 +1,5 @@
-use Rattle.std.proofs.Common.{◌∙◌}
-use Rattle.sqlite.specs.declared.error.Error.TheVariants.{SqliteFailure}
-use Rattle.sqlite.specs.declared.error.ErrorCode.TheVariants.{OutOfMemory}
-use Rattle.slices.specs.Slicing.{items_of_lots, with_staged}
-use Rattle.known_reads.proofs.ReadSteps.{has_read, read_on, and_then, so_told, fails_first, fails_later, no_room_left}
+use Rattle.slices.proofs.Words.{◌∙◌, SqliteFailure, OutOfMemory, items_of_lots, with_staged}
+use Rattle.slices.proofs.ReadSteps.{has_read, read_on, and_then, so_told, fails_first, fails_later, no_room_left}
 use Rattle.slices.proofs.day_items.affected_items.Goals as goal
 
 pub returns-in_err-meta-clause-read : goal.returns-in_err-meta-clause-read

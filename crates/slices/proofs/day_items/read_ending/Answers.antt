@@ -1,11 +1,7 @@
-use Rattle.std.proofs.Common.{◌≡◌, ℕ, List, filter, subst, ap, ◌∙◌}
-use Rattle.values.specs.Values.{same_text}
-use Rattle.sqlite.specs.declared.error.Error.TheVariants.{SqliteFailure}
-use Rattle.sqlite.specs.declared.error.ErrorCode.TheVariants.{OutOfMemory}
+use Rattle.slices.proofs.Words.{◌≡◌, ℕ, List, filter, subst, ap, ◌∙◌, same_text, SqliteFailure, OutOfMemory, RecallKey, same_recall, recall_key, is_ending, items_of_lots, not_recalled}
 use Rattle.table_words.specs.Found.{AreRows}
-use Rattle.table_words.specs.Typed.{RecallKey, same_recall, recall_key}
-use Rattle.slices.specs.Slicing.{Each, is_ending, items_of_lots, not_recalled}
-use Rattle.known_reads.proofs.ReadSteps.{has_read, read_on, and_then, so_told, fails_first, fails_later, no_room_left}
+use Rattle.slices.specs.Slicing.{Each}
+use Rattle.slices.proofs.ReadSteps.{has_read, read_on, and_then, so_told, fails_first, fails_later, no_room_left}
 use Rattle.slices.proofs.day_items.read_ending.Goals as goal
 
 pub returns-in_err-all-clause-read : goal.returns-in_err-all-clause-read

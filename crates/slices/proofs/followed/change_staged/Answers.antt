@@ -1,10 +1,4 @@
-use Rattle.std.proofs.Common.{List, subst}
-use Rattle.std.specs.Prelude.{reverse}
-use Rattle.std.specs.Ordering.{nat_cmp}
-use Rattle.std.specs.Cmp.Lexicographic.{slice_cmp}
-use Rattle.commands.specs.declared.rows.StagedRow.{StagedRow}
-use Rattle.known_rows.specs.Keyed.{same_staged_row}
-use Rattle.known_rows.specs.KnownRows.{ChangesBy, with_put, without_row}
+use Rattle.slices.proofs.Words.{List, subst, reverse, nat_cmp, slice_cmp, StagedRow, same_staged_row, ChangesBy, with_put, without_row}
 use Rattle.slices.proofs.followed.change_staged.Goals as goal
 
 pub returns : goal.returns

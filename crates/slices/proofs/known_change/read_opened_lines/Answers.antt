@@ -1,9 +1,6 @@
-use Rattle.std.proofs.Common.{◌≡◌, ℕ, ◌++◌, List, subst, ap, ◌∙◌}
-use Rattle.sqlite.specs.declared.error.Error.TheVariants.{SqliteFailure}
-use Rattle.sqlite.specs.declared.error.ErrorCode.TheVariants.{OutOfMemory}
-use Rattle.slices.specs.Slicing.{opened_by, AreAllLines}
-use Rattle.known_reads.proofs.ReadSteps.{has_read, fails_first, no_room_left, no_room_yet}
-use Rattle.known_reads.proofs.KnowingSteps.{known_told}
+use Rattle.slices.proofs.Words.{◌≡◌, ℕ, ◌++◌, List, subst, ap, ◌∙◌, SqliteFailure, OutOfMemory, opened_by, AreAllLines}
+use Rattle.slices.proofs.ReadSteps.{has_read, fails_first, no_room_left, no_room_yet}
+use Rattle.slices.proofs.KnowingSteps.{known_told}
 use Rattle.slices.proofs.known_change.read_opened_lines.Goals as goal
 
 pub returns-in_err-names-clause-read : goal.returns-in_err-names-clause-read

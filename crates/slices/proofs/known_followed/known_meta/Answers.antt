@@ -1,11 +1,5 @@
-use Rattle.std.proofs.Common.{◌≡◌, Option, Some, sym, subst}
-use Rattle.commands.specs.Tables.{Tables}
-use Rattle.commands.specs.declared.rows.MetaRow.{MetaRow}
-use Rattle.sqlite.specs.Held.{state}
-use Rattle.known_reads.proofs.ReadSteps.{read_none, fails_first, so_told}
-use Rattle.slices.specs.Following.{KnowsMeta, KnowsFollowed}
-use Rattle.slices.specs.Remembering.{Learning}
-use Rattle.slices.specs.declared.followed.Followed.{Followed}
+use Rattle.slices.proofs.Words.{◌≡◌, Option, Some, sym, subst, Tables, MetaRow, state, KnowsMeta, KnowsFollowed, Learning, Followed}
+use Rattle.slices.proofs.ReadSteps.{read_none, fails_first, so_told}
 use Rattle.slices.proofs.known_followed.known_meta.Goals as goal
 
 pub returns-in-Some-clause-read : goal.returns-in-Some-clause-read
@@ -24,6 +18,6 @@ returns-clause-read g c = so_told {P = λ (t : Tables) (row : MetaRow). t.meta �
     least = all.least;
     bins = all.bins;
     recalls = all.recalls;
-    followed = subst (λ (x : Followed). KnowsFollowed t x) (sym c.know_meta.ensures) (record { lots = all.followed.lots; lots_of = all.followed.lots_of; orders = all.followed.orders; urgents = all.followed.urgents; lines = all.followed.lines; lines_at = all.followed.lines_at; stock = all.followed.stock; staged = all.followed.staged; reserved = all.followed.reserved; meta = there });
+    followed = subst (λ (x : Followed). KnowsFollowed t x) (sym c.know_meta.ensures) (record { lots = all.followed.lots; lots_of = all.followed.lots_of; orders = all.followed.orders; urgents = all.followed.urgents; lines = all.followed.lines; lines_at = all.followed.lines_at; stock = all.followed.stock; staged = all.followed.staged; staged_for = all.followed.staged_for; reserved = all.followed.reserved; reserved_for = all.followed.reserved_for; meta = there });
   },
 ))

@@ -1,15 +1,7 @@
-use Rattle.std.proofs.Common.{◌≡◌, true, List, Option, Vec, Global, sym, subst}
-use Rattle.std.specs.Prelude.{bytes_eq, IfSome}
-use Rattle.commands.specs.Tables.{Tables}
-use Rattle.commands.specs.declared.rows.StockRow.{StockRow}
-use Rattle.sqlite.specs.Held.{state}
-use Rattle.table_words.specs.Typed.{StockKey, same_lot_id, same_stock, stock_key}
-use Rattle.machine.proofs.Tests.{and_both}
-use Rattle.goods_tables.specs.Stock.{AreStockOf, AreStockOfLot}
-use Rattle.known_reads.proofs.ReadSteps.{read_none}
-use Rattle.known_reads.proofs.KnowingSteps.{unasked}
-use Rattle.known_reads.proofs.RowsAmong.{rows_among}
-use Rattle.slices.specs.Remembering.{KnowsRows, Learning}
+use Rattle.slices.proofs.Words.{◌≡◌, true, List, Option, Vec, Global, sym, subst, bytes_eq, IfSome, Tables, StockRow, state, StockKey, same_lot_id, same_stock, stock_key, and_both, AreStockOf, AreStockOfLot, KnowsRows, Learning}
+use Rattle.slices.proofs.ReadSteps.{read_none}
+use Rattle.slices.proofs.KnowingSteps.{unasked}
+use Rattle.slices.proofs.RowsAmong.{rows_among}
 use Rattle.slices.proofs.KeysTold.{same_cell_is}
 use Rattle.slices.proofs.known_followed.seek_stock_of.Goals as goal
 

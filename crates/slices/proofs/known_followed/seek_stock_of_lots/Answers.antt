@@ -1,15 +1,6 @@
-use Rattle.std.proofs.Common.{Vec, Global, ◌≡◌, ◌+◌, ◌<◌, length, take, List, [], ◌++◌, Ok, refl, sym, ap, subst, ◌∙◌, arith}
-use Rattle.std.proofs.lemmas.List.{take_all}
-use Rattle.sqlite.specs.Held.{state}
-use Rattle.sqlite.specs.declared.error.Error.TheVariants.{SqliteFailure}
-use Rattle.sqlite.specs.declared.error.ErrorCode.TheVariants.{OutOfMemory}
-use Rattle.commands.specs.Tables.{Tables}
-use Rattle.commands.specs.declared.rows.StockRow.{StockRow}
-use Rattle.goods_tables.specs.Stock.{AreStockOfLot}
-use Rattle.known_reads.specs.Reading.{IsRead, Each}
-use Rattle.known_reads.proofs.ReadSteps.{read_none, has_read, read_on, so_told, fails_later, no_room_left}
-use Rattle.known_reads.proofs.KnowingSteps.{known_step}
-use Rattle.slices.specs.Remembering.{KnowsRows, Learning}
+use Rattle.slices.proofs.Words.{Vec, Global, ◌≡◌, ◌+◌, ◌<◌, length, take, List, [], ◌++◌, Ok, refl, sym, ap, subst, ◌∙◌, arith, take_all, state, SqliteFailure, OutOfMemory, Tables, StockRow, AreStockOfLot, IsRead, Each, KnowsRows, Learning}
+use Rattle.slices.proofs.ReadSteps.{read_none, has_read, read_on, so_told, fails_later, no_room_left}
+use Rattle.slices.proofs.KnowingSteps.{known_step}
 use Rattle.slices.proofs.known_followed.seek_stock_of_lots.Goals as goal
 
 pub loop-lot-init : goal.loop-lot-init

@@ -1,9 +1,4 @@
-use Rattle.std.proofs.Common.{◌≡◌, List, take, Ok}
-use Rattle.sqlite.specs.Held.{state}
-use Rattle.commands.specs.declared.rows.StockRow.{StockRow}
-use Rattle.goods_tables.specs.Stock.{AreStockOfLot}
-use Rattle.known_reads.specs.Reading.{IsRead, Each}
-use Rattle.slices.specs.Remembering.{Learning}
+use Rattle.slices.proofs.Words.{◌≡◌, List, take, Ok, state, StockRow, AreStockOfLot, IsRead, Each, Learning}
 use Rattle.slices.proofs.known_followed.seek_stock_of_lots.Given as goal
 
 -- so far the stock of the first lots is read

@@ -1,6 +1,4 @@
-use Rattle.commands.specs.declared.rows.StockRow.{StockRow}
-use Rattle.table_words.specs.Typed.{same_lot_id}
-use Rattle.row_rules.proofs.Walking.{IsKept}
+use Rattle.slices.proofs.Words.{StockRow, same_lot_id, IsKept}
 use Rattle.slices.proofs.known_followed.units_of.Given as goal
 
 abbrev pub invariant-loop-row : goal.invariant-loop-row

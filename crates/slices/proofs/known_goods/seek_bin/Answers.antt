@@ -1,4 +1,4 @@
-use Rattle.known_reads.proofs.KnowingSteps.{known_among}
+use Rattle.slices.proofs.KnowingSteps.{known_among}
 use Rattle.slices.proofs.known_goods.seek_bin.Goals as goal
 
 pub returns-clause-read : goal.returns-clause-read

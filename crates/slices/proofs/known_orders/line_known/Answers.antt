@@ -1,13 +1,6 @@
-use Rattle.std.proofs.Common.{◌≡◌, List, Option, sym, ap, subst, ◌∙◌}
-use Rattle.std.specs.Prelude.{slice_get, IfSome}
-use Rattle.commands.specs.declared.rows.LineRow.{LineRow}
-use Rattle.sqlite.specs.Held.{state}
-use Rattle.table_words.specs.Typed.{LineKey, same_line, line_key}
-use Rattle.table_words.proofs.KeyLemmas.{first_row, itself_both, itself_bytes}
-use Rattle.order_tables.specs.Lines.{AreLineOf}
-use Rattle.known_reads.proofs.ReadSteps.{read_none, fails_first}
-use Rattle.known_reads.proofs.KnowingSteps.{known_told}
-use Rattle.slices.specs.Remembering.{Learning}
+use Rattle.slices.proofs.Words.{◌≡◌, List, Option, sym, ap, subst, ◌∙◌, slice_get, IfSome, LineRow, state, LineKey, same_line, line_key, first_row, itself_both, itself_bytes, AreLineOf, Learning}
+use Rattle.slices.proofs.ReadSteps.{read_none, fails_first}
+use Rattle.slices.proofs.KnowingSteps.{known_told}
 use Rattle.slices.proofs.known_orders.line_known.Goals as goal
 
 pub returns-in-Some-clause-read : goal.returns-in-Some-clause-read

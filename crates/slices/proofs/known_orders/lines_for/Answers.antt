@@ -1,15 +1,6 @@
-use Rattle.std.proofs.Common.{◌≡◌, ◌+◌, ◌<◌, length, take, List, ◌++◌, Ok, sym, ap, subst, ◌∙◌, arith}
-use Rattle.std.specs.Prelude.{Option}
-use Rattle.std.proofs.lemmas.List.{take_all}
-use Rattle.commands.specs.declared.rows.LineRow.{LineRow}
-use Rattle.sqlite.specs.Held.{state}
-use Rattle.sqlite.specs.declared.error.Error.TheVariants.{SqliteFailure}
-use Rattle.sqlite.specs.declared.error.ErrorCode.TheVariants.{OutOfMemory}
-use Rattle.known_reads.specs.Reading.{IsRead}
-use Rattle.slices.specs.Remembering.{KnowsRows, Learning}
-use Rattle.slices.specs.Slicing.{listed, AreLinesFor}
-use Rattle.known_reads.proofs.ReadSteps.{has_read, read_on, so_told, fails_later, no_room_left}
-use Rattle.known_reads.proofs.KnowingSteps.{known_step, known_told}
+use Rattle.slices.proofs.Words.{◌≡◌, ◌+◌, ◌<◌, length, take, List, ◌++◌, Ok, sym, ap, subst, ◌∙◌, arith, Option, take_all, LineRow, state, SqliteFailure, OutOfMemory, IsRead, KnowsRows, Learning, listed, AreLinesFor}
+use Rattle.slices.proofs.ReadSteps.{has_read, read_on, so_told, fails_later, no_room_left}
+use Rattle.slices.proofs.KnowingSteps.{known_step, known_told}
 use Rattle.slices.proofs.known_orders.lines_for.Goals as goal
 
 pub returns-in_err-row-clause-read : goal.returns-in_err-row-clause-read

@@ -1,10 +1,6 @@
-use Rattle.std.proofs.Common.{◌≡◌, ℕ, List, true, sym, ap, subst, ◌∙◌}
-use Rattle.sqlite.specs.declared.error.Error.TheVariants.{SqliteFailure}
-use Rattle.sqlite.specs.declared.error.ErrorCode.TheVariants.{OutOfMemory}
-use Rattle.open_orders.specs.OpenLines.{orders_at, are_apart}
-use Rattle.slices.specs.Slicing.{AreLinesFor, other_names}
-use Rattle.known_reads.proofs.ReadSteps.{no_room_yet}
-use Rattle.known_reads.proofs.KnowingSteps.{known_as}
+use Rattle.slices.proofs.Words.{◌≡◌, ℕ, List, true, sym, ap, subst, ◌∙◌, SqliteFailure, OutOfMemory, orders_at, are_apart, AreLinesFor, other_names}
+use Rattle.slices.proofs.ReadSteps.{no_room_yet}
+use Rattle.slices.proofs.KnowingSteps.{known_as}
 use Rattle.slices.proofs.known_orders.lines_of_item.Goals as goal
 
 pub returns-in_err-orders-clause-read : goal.returns-in_err-orders-clause-read

@@ -1,14 +1,6 @@
-use Rattle.std.proofs.Common.{Vec, Global, ◌≡◌, ◌+◌, ◌<◌, length, take, List, ◌++◌, Ok, sym, ap, subst, ◌∙◌, arith}
-use Rattle.std.proofs.lemmas.List.{take_all}
-use Rattle.commands.specs.declared.rows.LineRow.{LineRow}
-use Rattle.sqlite.specs.Held.{state}
-use Rattle.sqlite.specs.declared.error.Error.TheVariants.{SqliteFailure}
-use Rattle.sqlite.specs.declared.error.ErrorCode.TheVariants.{OutOfMemory}
-use Rattle.known_reads.specs.Reading.{IsRead}
-use Rattle.slices.specs.Remembering.{KnowsRows, Learning}
-use Rattle.slices.specs.Slicing.{AreLinesOfItem, AreLinesOfItems}
-use Rattle.known_reads.proofs.ReadSteps.{has_read, read_on, so_told, fails_later, no_room_left}
-use Rattle.known_reads.proofs.KnowingSteps.{known_step}
+use Rattle.slices.proofs.Words.{Vec, Global, ◌≡◌, ◌+◌, ◌<◌, length, take, List, ◌++◌, Ok, sym, ap, subst, ◌∙◌, arith, take_all, LineRow, state, SqliteFailure, OutOfMemory, IsRead, KnowsRows, Learning, AreLinesOfItem, AreLinesOfItems}
+use Rattle.slices.proofs.ReadSteps.{has_read, read_on, so_told, fails_later, no_room_left}
+use Rattle.slices.proofs.KnowingSteps.{known_step}
 use Rattle.slices.proofs.known_orders.lines_of_items.Goals as goal
 
 pub returns-in_err-lines-clause-read : goal.returns-in_err-lines-clause-read

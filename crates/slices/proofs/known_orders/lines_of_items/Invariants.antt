@@ -1,9 +1,4 @@
-use Rattle.std.proofs.Common.{◌≡◌, List, take, Ok}
-use Rattle.commands.specs.declared.rows.LineRow.{LineRow}
-use Rattle.sqlite.specs.Held.{state}
-use Rattle.known_reads.specs.Reading.{IsRead}
-use Rattle.slices.specs.Remembering.{Learning}
-use Rattle.slices.specs.Slicing.{AreLinesOfItems}
+use Rattle.slices.proofs.Words.{◌≡◌, List, take, Ok, LineRow, state, IsRead, Learning, AreLinesOfItems}
 use Rattle.slices.proofs.known_orders.lines_of_items.Given as goal
 
 -- so far the lines of the first items are read

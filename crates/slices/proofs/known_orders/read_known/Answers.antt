@@ -1,10 +1,6 @@
-use Rattle.std.proofs.Common.{◌≡◌, ℕ, List, [], subst, ap, ◌∙◌}
-use Rattle.commands.specs.declared.rows.LineRow.{LineRow}
-use Rattle.sqlite.specs.declared.error.Error.TheVariants.{SqliteFailure}
-use Rattle.sqlite.specs.declared.error.ErrorCode.TheVariants.{OutOfMemory}
-use Rattle.slices.specs.Slicing.{AreOrders, with_names}
-use Rattle.known_reads.proofs.ReadSteps.{has_read, fails_first, fails_later, no_room_left}
-use Rattle.known_reads.proofs.KnowingSteps.{and_known, known_told}
+use Rattle.slices.proofs.Words.{◌≡◌, ℕ, List, [], subst, ap, ◌∙◌, LineRow, SqliteFailure, OutOfMemory, AreOrders, with_names}
+use Rattle.slices.proofs.ReadSteps.{has_read, fails_first, fails_later, no_room_left}
+use Rattle.slices.proofs.KnowingSteps.{and_known, known_told}
 use Rattle.slices.proofs.known_orders.read_known.Goals as goal
 
 pub returns-in_err-lines-clause-read : goal.returns-in_err-lines-clause-read

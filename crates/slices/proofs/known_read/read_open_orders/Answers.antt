@@ -1,13 +1,5 @@
-use Rattle.std.proofs.Common.{◌≡◌, ℕ, List, [], map, subst, ap, ◌∙◌}
-use Rattle.commands.specs.declared.rows.LineRow.{LineRow}
-use Rattle.commands.specs.declared.rows.OrderRow.{OrderRow}
-use Rattle.commands.specs.declared.rows.UrgentRow.{UrgentRow}
-use Rattle.sqlite.specs.declared.error.Error.TheVariants.{SqliteFailure}
-use Rattle.sqlite.specs.declared.error.ErrorCode.TheVariants.{OutOfMemory}
-use Rattle.open_orders.specs.OpenLines.{Gains, has_line_row}
-use Rattle.table_words.specs.Typed.{order_key}
-use Rattle.slices.specs.Slicing.{AreAllLines, AreUrgents, urgent_lines}
-use Rattle.known_reads.proofs.ReadSteps.{has_read, read_on, and_then, so_told, fails_first, fails_later, no_room_left}
+use Rattle.slices.proofs.Words.{◌≡◌, ℕ, List, [], map, subst, ap, ◌∙◌, LineRow, OrderRow, UrgentRow, SqliteFailure, OutOfMemory, Gains, has_line_row, order_key, AreAllLines, AreUrgents, urgent_lines}
+use Rattle.slices.proofs.ReadSteps.{has_read, read_on, and_then, so_told, fails_first, fails_later, no_room_left}
 use Rattle.slices.proofs.known_read.read_open_orders.Goals as goal
 
 pub returns-in_err-orders-clause-read : goal.returns-in_err-orders-clause-read

@@ -1,5 +1,5 @@
 use Rattle.std.proofs.Common.{◌≡◌, length, arith}
-use Rattle.known_reads.proofs.ReadSteps.{fails_first, so_told}
+use Rattle.slices.proofs.ReadSteps.{fails_first, so_told}
 use Rattle.slices.proofs.one_table.count_bins.Goals as goal
 
 pub returns-in_err-rows-clause-read : goal.returns-in_err-rows-clause-read

@@ -1,7 +1,5 @@
-use Rattle.std.proofs.Common.{◌∙◌}
-use Rattle.table_words.specs.Typed.{LineKey, same_line, line_key}
-use Rattle.table_words.proofs.KeyLemmas.{first_row, itself_both, itself_bytes}
-use Rattle.known_reads.proofs.ReadSteps.{as_told}
+use Rattle.slices.proofs.Words.{◌∙◌, LineKey, same_line, line_key, first_row, itself_both, itself_bytes}
+use Rattle.slices.proofs.ReadSteps.{as_told}
 use Rattle.slices.proofs.one_table.line_row.Goals as goal
 
 pub returns-clause-read : goal.returns-clause-read

@@ -1,15 +1,6 @@
-use Rattle.std.proofs.Common.{Vec, Global, ◌≡◌, true, List, [], ◌∷◌, refl, sym, ap, ◌∙◌}
-use Rattle.std.specs.Prelude.{find, slice_get}
-use Rattle.commands.specs.declared.rows.MetaRow.{MetaRow}
-use Rattle.sqlite.specs.Held.{state}
-use Rattle.sqlite_value.specs.Order.{column}
-use Rattle.table_words.specs.Cells.{is_the_number}
-use Rattle.table_words.specs.Typed.{is_meta}
-use Rattle.known_reads.specs.Reading.{IsRead}
-use Rattle.known_reads.proofs.ReadSteps.{read_of, never_foreign, fails_first, so_told, none_known}
-use Rattle.keyed_rows.proofs.Laws.{typed_rows}
-use Rattle.goods_tables.specs.Meta.{meta, meta_laws}
-use Rattle.known_reads.proofs.TypedRows.{typed_among}
+use Rattle.slices.proofs.Words.{Vec, Global, ◌≡◌, true, List, [], ◌∷◌, refl, sym, ap, ◌∙◌, find, slice_get, MetaRow, state, column, is_the_number, is_meta, IsRead, typed_rows, meta, meta_laws}
+use Rattle.slices.proofs.ReadSteps.{read_of, never_foreign, fails_first, so_told, none_known}
+use Rattle.slices.proofs.TypedRows.{typed_among}
 use Rattle.slices.proofs.one_table.meta_row.Goals as goal
 
 found_first : (rows : List MetaRow) → find (λ r. true) rows ≡ slice_get rows 0

@@ -1,5 +1,5 @@
-use Rattle.known_reads.proofs.ReadSteps.{has_read, fails_first, fails_later}
-use Rattle.known_reads.proofs.KnowingSteps.{and_known, known_told}
+use Rattle.slices.proofs.ReadSteps.{has_read, fails_first, fails_later}
+use Rattle.slices.proofs.KnowingSteps.{and_known, known_told}
 use Rattle.slices.proofs.picks.read_order.Goals as goal
 
 pub returns-in_err-orders-clause-read : goal.returns-in_err-orders-clause-read

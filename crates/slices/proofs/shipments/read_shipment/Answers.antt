@@ -1,12 +1,7 @@
-use Rattle.std.proofs.Common.{◌≡◌, ℕ, List, [], ap, sym, subst, ◌∙◌}
-use Rattle.values.specs.declared.lot.LotId.{LotId}
-use Rattle.commands.specs.declared.rows.LineRow.{LineRow}
-use Rattle.sqlite.specs.declared.error.Error.TheVariants.{SqliteFailure}
-use Rattle.sqlite.specs.declared.error.ErrorCode.TheVariants.{OutOfMemory}
+use Rattle.slices.proofs.Words.{◌≡◌, ℕ, List, [], ap, sym, subst, ◌∙◌, LotId, LineRow, SqliteFailure, OutOfMemory, AreStaged, with_names, lots_on_stage}
 use Rattle.slices.specs.ByLot.{AreStockOf}
-use Rattle.slices.specs.Slicing.{AreStaged, with_names, lots_on_stage}
-use Rattle.known_reads.proofs.ReadSteps.{has_read, read_on, fails_first, fails_later, no_room_left}
-use Rattle.known_reads.proofs.KnowingSteps.{and_known, known_told}
+use Rattle.slices.proofs.ReadSteps.{has_read, read_on, fails_first, fails_later, no_room_left}
+use Rattle.slices.proofs.KnowingSteps.{and_known, known_told}
 use Rattle.slices.proofs.shipments.read_shipment.Goals as goal
 
 pub returns-in_err-orders-clause-read : goal.returns-in_err-orders-clause-read

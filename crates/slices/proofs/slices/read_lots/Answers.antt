@@ -1,13 +1,5 @@
-use Rattle.std.proofs.Common.{Vec, Global, List, subst, ◌∙◌}
-use Rattle.values.specs.declared.lot.LotId.{LotId}
-use Rattle.commands.specs.declared.rows.LotRow.{LotRow}
-use Rattle.sqlite.specs.Held.{state}
-use Rattle.sqlite.specs.declared.error.Error.TheVariants.{SqliteFailure}
-use Rattle.sqlite.specs.declared.error.ErrorCode.TheVariants.{OutOfMemory}
-use Rattle.known_reads.specs.Reading.{IsRead}
-use Rattle.slices.specs.ByLot.{AreLotsOf}
-use Rattle.slices.specs.Remembering.{Learning}
-use Rattle.known_reads.proofs.ReadSteps.{no_room_yet}
+use Rattle.slices.proofs.Words.{Vec, Global, List, subst, ◌∙◌, LotId, LotRow, state, SqliteFailure, OutOfMemory, IsRead, AreLotsOf, Learning}
+use Rattle.slices.proofs.ReadSteps.{no_room_yet}
 use Rattle.slices.proofs.slices.read_lots.Goals as goal
 
 pub returns-in_err-lots-clause-read : goal.returns-in_err-lots-clause-read

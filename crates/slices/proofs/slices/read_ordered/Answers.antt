@@ -1,10 +1,6 @@
-use Rattle.std.proofs.Common.{◌≡◌, ℕ, List, subst, ◌∙◌}
-use Rattle.commands.specs.declared.rows.OrderRow.{OrderRow}
-use Rattle.sqlite.specs.declared.error.Error.TheVariants.{SqliteFailure}
-use Rattle.sqlite.specs.declared.error.ErrorCode.TheVariants.{OutOfMemory}
-use Rattle.slices.specs.Slicing.{AreKnownOrders, AreUrgentsFor, orders_named}
-use Rattle.known_reads.proofs.ReadSteps.{has_read, fails_first, fails_later, no_room_yet}
-use Rattle.known_reads.proofs.KnowingSteps.{and_known, known_told}
+use Rattle.slices.proofs.Words.{◌≡◌, ℕ, List, subst, ◌∙◌, OrderRow, SqliteFailure, OutOfMemory, AreKnownOrders, AreUrgentsFor, orders_named}
+use Rattle.slices.proofs.ReadSteps.{has_read, fails_first, fails_later, no_room_yet}
+use Rattle.slices.proofs.KnowingSteps.{and_known, known_told}
 use Rattle.slices.proofs.slices.read_ordered.Goals as goal
 
 pub returns-in_err-named-clause-read : goal.returns-in_err-named-clause-read

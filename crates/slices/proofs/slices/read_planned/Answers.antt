@@ -1,9 +1,6 @@
-use Rattle.std.proofs.Common.{ℕ, List, subst, ◌∙◌}
-use Rattle.commands.specs.declared.rows.StagedRow.{StagedRow}
-use Rattle.slices.specs.ByLot.{AreLotsOf}
-use Rattle.slices.specs.Slicing.{orders_named, held_lots, AreStaged, AreGoods, AreKnownOrders, AreUrgentsFor}
-use Rattle.known_reads.proofs.ReadSteps.{has_read, read_on, fails_first, fails_later}
-use Rattle.known_reads.proofs.KnowingSteps.{and_known, known_told}
+use Rattle.slices.proofs.Words.{ℕ, List, subst, ◌∙◌, StagedRow, AreLotsOf, orders_named, held_lots, AreStaged, AreGoods, AreKnownOrders, AreUrgentsFor}
+use Rattle.slices.proofs.ReadSteps.{has_read, read_on, fails_first, fails_later}
+use Rattle.slices.proofs.KnowingSteps.{and_known, known_told}
 use Rattle.slices.proofs.slices.read_planned.Goals as goal
 
 pub returns-in_err-gtins-clause-read : goal.returns-in_err-gtins-clause-read

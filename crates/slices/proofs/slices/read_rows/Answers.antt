@@ -1,12 +1,5 @@
-use Rattle.std.proofs.Common.{◌≡◌, ℕ, List, refl, sym, subst}
-use Rattle.commands.specs.Tables.{Tables}
-use Rattle.commands.specs.declared.command.Command.{Command}
-use Rattle.commands.specs.declared.command.Command.TheVariants.{Pick, Ship}
-use Rattle.commands.specs.declared.command.Picking.{Picking}
-use Rattle.row_rules.specs.declared.slice.Rows.{Rows}
-use Rattle.slices.specs.Slicing.{ArePlanned, AreSliced}
-use Rattle.slices.specs.declared.knowing.Known.{Known}
-use Rattle.known_reads.proofs.KnowingSteps.{known_as}
+use Rattle.slices.proofs.Words.{◌≡◌, ℕ, List, refl, sym, subst, Tables, Command, Pick, Ship, Picking, Rows, ArePlanned, AreSliced, Known}
+use Rattle.slices.proofs.KnowingSteps.{known_as}
 use Rattle.slices.proofs.slices.read_rows.Goals as goal
 
 -- those of a command that is no shipment and no pick

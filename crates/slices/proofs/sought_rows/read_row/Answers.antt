@@ -1,6 +1,5 @@
-use Rattle.std.proofs.Common.{◌≡◌, ap, ◌∙◌}
-use Rattle.std.specs.Prelude.{slice_get}
-use Rattle.known_reads.proofs.ReadSteps.{fails_first, so_told}
+use Rattle.slices.proofs.Words.{◌≡◌, ap, ◌∙◌, slice_get}
+use Rattle.slices.proofs.ReadSteps.{fails_first, so_told}
 use Rattle.slices.proofs.sought_rows.read_row.Goals as goal
 
 pub returns-in_err-rows-clause-read : goal.returns-in_err-rows-clause-read

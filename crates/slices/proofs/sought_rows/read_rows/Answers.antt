@@ -1,8 +1,6 @@
-use Rattle.std.proofs.Common.{◌≡◌, true}
-use Rattle.sqlite.specs.Held.{state}
-use Rattle.keyed_rows.proofs.Laws.{typed_rows}
-use Rattle.known_reads.proofs.ReadSteps.{read_of, never_foreign}
-use Rattle.known_reads.proofs.TypedRows.{typed_among}
+use Rattle.slices.proofs.Words.{◌≡◌, true, state, typed_rows}
+use Rattle.slices.proofs.ReadSteps.{read_of, never_foreign}
+use Rattle.slices.proofs.TypedRows.{typed_among}
 use Rattle.slices.proofs.sought_rows.read_rows.Goals as goal
 
 pub returns-clause-read : goal.returns-clause-read

@@ -1,11 +1,6 @@
-use Rattle.std.proofs.Common.{Vec, Global, ◌≡◌, ◌+◌, ◌<◌, length, take, List, [], ◌++◌, Ok, refl, sym, ap, subst, ◌∙◌, arith}
-use Rattle.std.proofs.lemmas.List.{take_all}
-use Rattle.sqlite.specs.Held.{state}
-use Rattle.sqlite.specs.declared.error.Error.TheVariants.{SqliteFailure}
-use Rattle.sqlite.specs.declared.error.ErrorCode.TheVariants.{OutOfMemory}
-use Rattle.known_reads.specs.Reading.{IsRead, Each}
-use Rattle.known_reads.proofs.ReadSteps.{read_none, has_read, read_on, so_told, fails_later, no_room_left}
-use Rattle.known_reads.proofs.SeekSteps.{key_step}
+use Rattle.slices.proofs.Words.{Vec, Global, ◌≡◌, ◌+◌, ◌<◌, length, take, List, [], ◌++◌, Ok, refl, sym, ap, subst, ◌∙◌, arith, take_all, state, SqliteFailure, OutOfMemory, IsRead, Each}
+use Rattle.slices.proofs.ReadSteps.{read_none, has_read, read_on, so_told, fails_later, no_room_left}
+use Rattle.slices.proofs.KnownSteps.{key_step}
 use Rattle.slices.proofs.sought_rows.seek_all.Goals as goal
 
 pub loop-key-init : goal.loop-key-init

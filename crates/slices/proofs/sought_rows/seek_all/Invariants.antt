@@ -1,6 +1,4 @@
-use Rattle.std.proofs.Common.{◌≡◌, List, take, Ok}
-use Rattle.sqlite.specs.Held.{state}
-use Rattle.known_reads.specs.Reading.{IsRead, Each}
+use Rattle.slices.proofs.Words.{◌≡◌, List, take, Ok, state, IsRead, Each}
 use Rattle.slices.proofs.sought_rows.seek_all.Given as goal
 
 -- so far the rows of the first keys are read

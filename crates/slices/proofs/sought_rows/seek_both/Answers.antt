@@ -1,4 +1,4 @@
-use Rattle.known_reads.proofs.ReadSteps.{has_read, and_then, so_told, fails_first, fails_later}
+use Rattle.slices.proofs.ReadSteps.{has_read, and_then, so_told, fails_first, fails_later}
 use Rattle.slices.proofs.sought_rows.seek_both.Goals as goal
 
 pub returns-in_err-first-clause-read : goal.returns-in_err-first-clause-read

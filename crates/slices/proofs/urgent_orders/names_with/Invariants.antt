@@ -1,5 +1,4 @@
-use Rattle.std.proofs.Common.{◌≡◌, ◌++◌, drop}
-use Rattle.slices.specs.Slicing.{names_at}
+use Rattle.slices.proofs.Words.{◌≡◌, ◌++◌, drop, names_at}
 use Rattle.slices.proofs.urgent_orders.names_with.Given as goal
 
 -- the names so far, with those of the items that are left

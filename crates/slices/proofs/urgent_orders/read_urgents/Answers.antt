@@ -1,9 +1,6 @@
-use Rattle.std.proofs.Common.{◌≡◌, ℕ, List, subst, ap, ◌∙◌}
-use Rattle.sqlite.specs.declared.error.Error.TheVariants.{SqliteFailure}
-use Rattle.sqlite.specs.declared.error.ErrorCode.TheVariants.{OutOfMemory}
-use Rattle.slices.specs.Slicing.{names_among, names_at, AreUrgents}
-use Rattle.known_reads.proofs.ReadSteps.{no_room_yet}
-use Rattle.known_reads.proofs.KnowingSteps.{known_as}
+use Rattle.slices.proofs.Words.{◌≡◌, ℕ, List, subst, ap, ◌∙◌, SqliteFailure, OutOfMemory, names_among, names_at, AreUrgents}
+use Rattle.slices.proofs.ReadSteps.{no_room_yet}
+use Rattle.slices.proofs.KnowingSteps.{known_as}
 use Rattle.slices.proofs.urgent_orders.read_urgents.Goals as goal
 
 pub returns-in_err-may_be-clause-read : goal.returns-in_err-may_be-clause-read

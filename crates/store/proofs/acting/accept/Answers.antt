@@ -1,58 +1,27 @@
-use Rattle.std.proofs.Common.{ℕ, List, refl, subst, ◌∙◌, arith}
-use Rattle.sqlite.specs.State.{HasCleanDisk}
-use Rattle.sqlite.specs.Held.{state}
-use Rattle.commands.specs.Spelling.{key_text}
-use Rattle.table_words.specs.Steps.{Goes}
-use Rattle.table_words.specs.Typed.{with_repeat}
-use Rattle.table_words.proofs.CallLemmas.{goes_then, kept_then}
-use Rattle.rules.specs.Slices.{applied}
-use Rattle.changes.specs.Written.{change_written}
-use Rattle.store.proofs.FaultsTold.{fault_is_store}
+use Rattle.store.proofs.Words.{ℕ, List, subst, ◌∙◌, state, SqliteFailure, OutOfMemory, key_text, Tables, with_repeat, TableStore as Store, Writes, same_error, writes_none, writes_then, change_written, repeat_of}
 use Rattle.store.proofs.acting.accept.Goals as goal
 
-pub returns-in_err-write_change-clause-fault : goal.returns-in_err-write_change-clause-fault
-returns-in_err-write_change-clause-fault g c =
-    fault_is_store c.from_residual-in_err-write_change.result c.in_err-write_change.field-0.0 c.from_residual-in_err-write_change.ensures c.in_err-write_change.ensures.never_foreign
+pub returns-in_err-spelled-clause-writes : goal.returns-in_err-spelled-clause-writes
+returns-in_err-spelled-clause-writes g c =
+    let old = state g.S.Store c.args.tx.now.conn.now in
+    let to = λ (t : Tables). with_repeat (repeat_of c.args.key.now c.args.command.now c.args.change.now) (change_written c.args.change.now t) in
+    same_error c.from_residual.result (Store (SqliteFailure OutOfMemory)) c.from_residual.ensures (λ r. Writes {X = Unit {0}} to old old r) (writes_none (λ _. to) old (Store (SqliteFailure OutOfMemory)) (λ e. cc))
 
-pub returns-clause-done : goal.returns-clause-done
-returns-clause-done g c clean ready once =
+pub returns-in_err-write_change-clause-writes : goal.returns-in_err-write_change-clause-writes
+returns-in_err-write_change-clause-writes g c =
+    let old = state g.S.Store c.args.tx.now.conn.now in
+    let new = state g.S.Store c.write_change.new.tx.conn.now in
+    let to = λ (t : Tables). with_repeat (repeat_of c.args.key.now c.args.command.now c.args.change.now) (change_written c.args.change.now t) in
+    let wrote = c.in_err-write_change.ensures.writes in
+    same_error c.from_residual-in_err-write_change.result c.in_err-write_change.field-0.0 c.from_residual-in_err-write_change.ensures (λ r. Writes {X = Unit {0}} to old new r)
+    (record { done = λ clean ready. tt; kept = wrote.kept; survives = wrote.survives; never_foreign = wrote.never_foreign })
+
+pub returns-clause-writes : goal.returns-clause-writes
+returns-clause-writes g c =
     let old = state g.S.Store c.args.tx.now.conn.now in
     let mid = state g.S.Store c.write_change.new.tx.conn.now in
     let new = state g.S.Store c.keep_act.new.tx.conn.now in
     let change = c.args.change.now in
-    let was : HasCleanDisk mid = omega (arith, clean, c.keep_act.ensures.survives.clean) in
-    let wrote = c.in_ok-write_change.ensures.done was ready once in
-    subst (λ (s : List ℕ). Goes (λ t. with_repeat (record { k = key_text c.args.key.now; act = change.meta.acts; spell = s; reply = change.text }) (applied change t)) old new)
+    subst (λ (s : List ℕ). Writes {X = Unit {0}} (λ t. with_repeat (record { k = key_text c.args.key.now; act = change.meta.acts; spell = s; reply = change.text }) (change_written change t)) old new c.keep_act.result)
     (c.from_vec.ensures ∙ c.in_ok-spelled.ensures)
-    (goes_then (applied change) (with_repeat (record { k = key_text c.args.key.now; act = change.meta.acts; spell = c.from_vec.result; reply = change.text })) old mid new wrote (c.in_ok-keep_act.ensures.done clean wrote.ready))
-
-pub returns-clause-told : goal.returns-clause-told
-returns-clause-told g c = refl
-
-pub returns-clause-kept : goal.returns-clause-kept
-returns-clause-kept g c clean =
-    let old = state g.S.Store c.args.tx.now.conn.now in
-    let mid = state g.S.Store c.write_change.new.tx.conn.now in
-    let new = state g.S.Store c.keep_act.new.tx.conn.now in
-    let was : HasCleanDisk mid = omega (arith, clean, c.keep_act.ensures.survives.clean) in
-    kept_then old mid new (c.in_ok-write_change.ensures.kept was) (c.in_ok-keep_act.ensures.kept clean)
-
-pub returns-in_err-keep_act-clause-kept : goal.returns-in_err-keep_act-clause-kept
-returns-in_err-keep_act-clause-kept g c clean =
-    let old = state g.S.Store c.args.tx.now.conn.now in
-    let mid = state g.S.Store c.write_change.new.tx.conn.now in
-    let new = state g.S.Store c.keep_act.new.tx.conn.now in
-    let was : HasCleanDisk mid = omega (arith, clean, c.keep_act.ensures.survives.clean) in
-    kept_then old mid new (c.in_ok-write_change.ensures.kept was) (c.in_err-keep_act.ensures.kept clean)
-
-pub returns-clause-written : goal.returns-clause-written
-returns-clause-written g c clean ready =
-    let old = state g.S.Store c.args.tx.now.conn.now in
-    let mid = state g.S.Store c.write_change.new.tx.conn.now in
-    let new = state g.S.Store c.keep_act.new.tx.conn.now in
-    let change = c.args.change.now in
-    let was : HasCleanDisk mid = omega (arith, clean, c.keep_act.ensures.survives.clean) in
-    let wrote = c.in_ok-write_change.ensures.written was ready in
-    subst (λ (s : List ℕ). Goes (λ t. with_repeat (record { k = key_text c.args.key.now; act = change.meta.acts; spell = s; reply = change.text }) (change_written change t)) old new)
-    (c.from_vec.ensures ∙ c.in_ok-spelled.ensures)
-    (goes_then (change_written change) (with_repeat (record { k = key_text c.args.key.now; act = change.meta.acts; spell = c.from_vec.result; reply = change.text })) old mid new wrote (c.in_ok-keep_act.ensures.done clean wrote.ready))
+    (writes_then (λ _. change_written change) (λ _. with_repeat (record { k = key_text c.args.key.now; act = change.meta.acts; spell = c.from_vec.result; reply = change.text })) old mid new tt c.keep_act.result c.in_ok-write_change.ensures.writes c.keep_act.ensures.writes)

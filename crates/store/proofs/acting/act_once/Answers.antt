@@ -1,15 +1,6 @@
-use Rattle.std.proofs.Common.{◌≡◌, Bool, OnErr, IsTrue, rules, subst}
-use Rattle.std.specs.Prelude.{IfSome}
-use Rattle.commands.specs.Tables.{Tables}
-use Rattle.table_words.specs.Steps.{IsReady}
-use Rattle.slices.specs.Slicing.{HoldsOf}
-use Rattle.sqlite.specs.Held.{state}
-use Rattle.sqlite.specs.State.{State, HasCleanDisk, KeepsCommit}
-use Rattle.machine.specs.Acts.{Act}
+use Rattle.store.proofs.Words.{◌≡◌, Bool, OnErr, IsTrue, rules, subst, IfSome, Tables, IsReady, HoldsOf, state, State, HasCleanDisk, KeepsCommit, Act, IsKnown, HasLeft, Store}
 use Rattle.store.proofs.ActsWhole.{ActsInside, ActsWhole, SurvivesWhole, begun_state, act_finished, act_stopped}
 use Rattle.store.proofs.KnownKept.{holds_begun, kept_finished, known_finished}
-use Rattle.store.specs.Knowing.{IsKnown, HasLeft}
-use Rattle.store.specs.declared.fault.Fault.TheVariants.{Store}
 use Rattle.store.proofs.acting.act_once.Goals as goal
 
 pub returns-clause-acted : goal.returns-clause-acted
@@ -21,8 +12,8 @@ returns-clause-acted g c =
     let new = state g.S.Store c.finish-reply.new.tx.0 in
     let is = begun_state g.S.Store c.args.conn.now c.transaction-tx.result.conn.now c.transaction-tx.ensures.begun in
     let inside : ActsInside act c.act_inside-reply.result begun last = λ clean kind first acts history books.
-    c.act_inside-reply.ensures.acts.acted clean kind first acts history books (holds_begun old begun last new is c.act_inside-reply.ensures.survives c.args.known.now c.requires.known clean) tt in
-    let whole : ActsWhole act c.finish-reply.result old new = act_finished act old begun last new is c.act_inside-reply.result c.finish-reply.result inside c.act_inside-reply.ensures.acts.kept c.finish-reply.ensures.survives c.finish-reply.ensures.ends in
+    c.act_inside-reply.ensures.acts.does.acted clean kind first acts history books (holds_begun old begun last new is c.act_inside-reply.ensures.acts.survives c.args.known.now c.requires.known clean) tt in
+    let whole : ActsWhole act c.finish-reply.result old new = act_finished act old begun last new is c.act_inside-reply.result c.finish-reply.result inside c.act_inside-reply.ensures.acts.does.kept c.finish-reply.ensures.survives c.finish-reply.ensures.ends in
     subst (λ (s : State). ActsWhole act c.finish-reply.result old s) (search rules) whole
 
 pub returns-clause-survives : goal.returns-clause-survives
@@ -34,8 +25,8 @@ returns-clause-survives g c =
     let new = state g.S.Store c.finish-reply.new.tx.0 in
     let is = begun_state g.S.Store c.args.conn.now c.transaction-tx.result.conn.now c.transaction-tx.ensures.begun in
     let inside : ActsInside act c.act_inside-reply.result begun last = λ clean kind first acts history books.
-    c.act_inside-reply.ensures.acts.acted clean kind first acts history books (holds_begun old begun last new is c.act_inside-reply.ensures.survives c.args.known.now c.requires.known clean) tt in
-    let whole : SurvivesWhole act old new = act_stopped act old begun last new is c.act_inside-reply.result inside c.act_inside-reply.ensures.survives c.finish-reply.ensures.survives in
+    c.act_inside-reply.ensures.acts.does.acted clean kind first acts history books (holds_begun old begun last new is c.act_inside-reply.ensures.acts.survives c.args.known.now c.requires.known clean) tt in
+    let whole : SurvivesWhole act old new = act_stopped act old begun last new is c.act_inside-reply.result inside c.act_inside-reply.ensures.acts.survives c.finish-reply.ensures.survives in
     subst (λ (s : State). SurvivesWhole act old s) (search rules) whole
 
 pub returns-clause-as_before : goal.returns-clause-as_before
@@ -46,7 +37,7 @@ returns-clause-as_before g c =
     let new = state g.S.Store c.finish-reply.new.tx.0 in
     let is = begun_state g.S.Store c.args.conn.now c.transaction-tx.result.conn.now c.transaction-tx.ensures.begun in
     let whole : HasCleanDisk new → OnErr c.finish-reply.result (KeepsCommit old new) =
-    kept_finished old begun last new is c.act_inside-reply.ensures.survives c.args.known.now c.requires.known c.finish-reply.ensures.survives (λ _ e. e ≡ Store) c.act_inside-reply.result c.finish-reply.result c.act_inside-reply.ensures.acts.kept c.finish-reply.ensures.ends in
+    kept_finished old begun last new is c.act_inside-reply.ensures.acts.survives c.args.known.now c.requires.known c.finish-reply.ensures.survives (λ _ e. e ≡ Store) c.act_inside-reply.result c.finish-reply.result c.act_inside-reply.ensures.acts.does.kept c.finish-reply.ensures.ends in
     subst (λ (s : State). HasCleanDisk s → OnErr c.finish-reply.result (KeepsCommit old s)) (search rules) whole
 
 pub returns-clause-known : goal.returns-clause-known
@@ -56,9 +47,9 @@ returns-clause-known g c =
     let last = state g.S.Store c.act_inside-reply.new.tx.conn.now in
     let new = state g.S.Store c.finish-reply.new.tx.0 in
     let is = begun_state g.S.Store c.args.conn.now c.transaction-tx.result.conn.now c.transaction-tx.ensures.begun in
-    let inside = λ (clean : HasCleanDisk last) (ready : IsTrue begun.is_open → IsReady begun.now). c.act_inside-reply.ensures.acts.knows clean ready in
+    let inside = λ (clean : HasCleanDisk last) (ready : IsTrue begun.is_open → IsReady begun.now). c.act_inside-reply.ensures.acts.does.knows clean ready in
     let forgets = subst (λ (b : Bool). OnErr c.finish-reply.result ((t : Tables) → HasLeft b c.act_inside-reply.new.known t → IfSome c.forget_undone.new.known (λ k. HoldsOf k t))) c.is_ok-acted.ensures.value c.forget_undone.ensures.undone in
     let whole : IsKnown c.forget_undone.new.known new =
-    known_finished old begun last new is c.act_inside-reply.ensures.survives c.args.known.now c.requires.known c.finish-reply.ensures.survives (λ _ e. e ≡ Store) c.act_inside-reply.result c.finish-reply.result c.act_inside-reply.ensures.acts.kept c.finish-reply.ensures.ends
+    known_finished old begun last new is c.act_inside-reply.ensures.acts.survives c.args.known.now c.requires.known c.finish-reply.ensures.survives (λ _ e. e ≡ Store) c.act_inside-reply.result c.finish-reply.result c.act_inside-reply.ensures.acts.does.kept c.finish-reply.ensures.ends
     c.act_inside-reply.new.known (λ clean ready. (inside clean ready).answered) c.forget_undone.new.known (λ clean ready. (inside clean ready).before) c.forget_undone.ensures.committed forgets in
     subst (λ (s : State). IsKnown c.forget_undone.new.known s) (search rules) whole

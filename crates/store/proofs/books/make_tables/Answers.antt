@@ -1,6 +1,4 @@
-use Rattle.std.specs.Prelude.{[]}
-use Rattle.sqlite.specs.Held.{state}
-use Rattle.store.specs.Books.{AreBooks}
+use Rattle.store.proofs.Words.{[], state, AreBooks}
 use Rattle.store.proofs.EmptyTables.{rows_are, books_made, survives_both}
 use Rattle.store.proofs.books.make_tables.Goals as goal
 

@@ -1,5 +1,4 @@
-use Rattle.std.proofs.Common.{ap, ◌∙◌}
-use Rattle.std.specs.Option.{unwrap_or}
+use Rattle.store.proofs.Words.{ap, ◌∙◌, unwrap_or}
 use Rattle.store.proofs.DayTold.{day_named}
 use Rattle.store.proofs.day.day_after.Goals as goal
 

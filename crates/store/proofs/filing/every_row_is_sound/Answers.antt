@@ -1,6 +1,4 @@
-use Rattle.std.proofs.Common.{◌≡◌, take, subst, arith}
-use Rattle.std.proofs.lemmas.Grind.{common_steps}
-use Rattle.std.proofs.lemmas.List.Elements.{All-more}
+use Rattle.store.proofs.Words.{◌≡◌, take, subst, arith, common_steps, All-more}
 use Rattle.store.proofs.FilesInside.{IsSoundRow, rows_are_sound}
 use Rattle.store.proofs.filing.every_row_is_sound.Goals as goal
 

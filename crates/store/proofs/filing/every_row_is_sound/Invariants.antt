@@ -1,5 +1,4 @@
-use Rattle.std.proofs.Common.{take}
-use Rattle.std.specs.Prelude.{All}
+use Rattle.store.proofs.Words.{take, All}
 use Rattle.store.proofs.FilesInside.{IsSoundRow}
 use Rattle.store.proofs.filing.every_row_is_sound.Given as goal
 

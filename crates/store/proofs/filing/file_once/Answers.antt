@@ -1,11 +1,7 @@
-use Rattle.std.proofs.Common.{◌≡◌, OnOk, OnErr, rules, subst}
-use Rattle.sqlite.specs.Held.{state}
-use Rattle.sqlite.specs.State.{State, HasCleanDisk, KeepsCommit}
+use Rattle.store.proofs.Words.{◌≡◌, OnOk, OnErr, rules, subst, state, State, HasCleanDisk, KeepsCommit, IsSettled, IsKnown}
 use Rattle.store.proofs.ActsWhole.{begun_state}
 use Rattle.store.proofs.FilesWhole.{FilesInside, FilesWhole, FileSurvives, file_finished, file_stopped}
 use Rattle.store.proofs.KnownKept.{holds_begun, kept_finished, known_answered, settled_finished}
-use Rattle.store.specs.Books.{IsSettled}
-use Rattle.store.specs.Knowing.{IsKnown}
 use Rattle.store.specs.declared.tally.RowFault.TheVariants.{Store}
 use Rattle.store.proofs.filing.file_once.Goals as goal
 
@@ -18,9 +14,9 @@ returns-clause-filed g c =
     let new = state g.S.Store c.finish.new.tx.0 in
     let is = begun_state g.S.Store c.args.conn.now c.transaction-tx.result.conn.now c.transaction-tx.ensures.begun in
     let inside : FilesInside rows c.args.day c.file_inside-filed.result begun last = λ clean keys first acts history books.
-    c.file_inside-filed.ensures.filed clean keys first acts history books (holds_begun old begun last new is c.file_inside-filed.ensures.survives c.args.known.now c.requires.known clean) in
+    c.file_inside-filed.ensures.files.does.filed clean keys first acts history books (holds_begun old begun last new is c.file_inside-filed.ensures.files.survives c.args.known.now c.requires.known clean) in
     let whole : FilesWhole rows c.args.day c.finish.result old new =
-    file_finished rows c.args.day old begun last new is c.file_inside-filed.result c.finish.result inside c.file_inside-filed.ensures.kept c.finish.ensures.survives c.finish.ensures.ends in
+    file_finished rows c.args.day old begun last new is c.file_inside-filed.result c.finish.result inside c.file_inside-filed.ensures.files.does.kept c.finish.ensures.survives c.finish.ensures.ends in
     subst (λ (s : State). FilesWhole rows c.args.day c.finish.result old s) (search rules) whole
 
 pub returns-clause-survives : goal.returns-clause-survives
@@ -32,8 +28,8 @@ returns-clause-survives g c =
     let new = state g.S.Store c.finish.new.tx.0 in
     let is = begun_state g.S.Store c.args.conn.now c.transaction-tx.result.conn.now c.transaction-tx.ensures.begun in
     let inside : FilesInside rows c.args.day c.file_inside-filed.result begun last = λ clean keys first acts history books.
-    c.file_inside-filed.ensures.filed clean keys first acts history books (holds_begun old begun last new is c.file_inside-filed.ensures.survives c.args.known.now c.requires.known clean) in
-    let whole : FileSurvives rows old new = file_stopped rows c.args.day old begun last new is c.file_inside-filed.result inside c.file_inside-filed.ensures.survives c.finish.ensures.survives in
+    c.file_inside-filed.ensures.files.does.filed clean keys first acts history books (holds_begun old begun last new is c.file_inside-filed.ensures.files.survives c.args.known.now c.requires.known clean) in
+    let whole : FileSurvives rows old new = file_stopped rows c.args.day old begun last new is c.file_inside-filed.result inside c.file_inside-filed.ensures.files.survives c.finish.ensures.survives in
     subst (λ (s : State). FileSurvives rows old s) (search rules) whole
 
 pub returns-clause-as_before : goal.returns-clause-as_before
@@ -44,7 +40,7 @@ returns-clause-as_before g c =
     let new = state g.S.Store c.finish.new.tx.0 in
     let is = begun_state g.S.Store c.args.conn.now c.transaction-tx.result.conn.now c.transaction-tx.ensures.begun in
     let whole : HasCleanDisk new → OnErr c.finish.result (KeepsCommit old new) =
-    kept_finished old begun last new is c.file_inside-filed.ensures.survives c.args.known.now c.requires.known c.finish.ensures.survives (λ _ e. e ≡ Store) c.file_inside-filed.result c.finish.result c.file_inside-filed.ensures.kept c.finish.ensures.ends in
+    kept_finished old begun last new is c.file_inside-filed.ensures.files.survives c.args.known.now c.requires.known c.finish.ensures.survives (λ _ e. e ≡ Store) c.file_inside-filed.result c.finish.result c.file_inside-filed.ensures.files.does.kept c.finish.ensures.ends in
     subst (λ (s : State). HasCleanDisk s → OnErr c.finish.result (KeepsCommit old s)) (search rules) whole
 
 pub returns-clause-known : goal.returns-clause-known
@@ -55,8 +51,8 @@ returns-clause-known g c =
     let new = state g.S.Store c.finish.new.tx.0 in
     let is = begun_state g.S.Store c.args.conn.now c.transaction-tx.result.conn.now c.transaction-tx.ensures.begun in
     let whole : OnOk c.finish.result (IsKnown c.file_inside-filed.new.known new) =
-    known_answered old begun last new is c.file_inside-filed.ensures.survives c.args.known.now c.requires.known c.finish.ensures.survives (λ _ e. e ≡ Store) c.file_inside-filed.result c.finish.result c.file_inside-filed.ensures.kept c.finish.ensures.ends
-    c.file_inside-filed.new.known c.file_inside-filed.ensures.known in
+    known_answered old begun last new is c.file_inside-filed.ensures.files.survives c.args.known.now c.requires.known c.finish.ensures.survives (λ _ e. e ≡ Store) c.file_inside-filed.result c.finish.result c.file_inside-filed.ensures.files.does.kept c.finish.ensures.ends
+    c.file_inside-filed.new.known c.file_inside-filed.ensures.files.does.knows in
     subst (λ (s : State). OnOk c.finish.result (IsKnown c.file_inside-filed.new.known s)) (search rules) whole
 
 pub returns-clause-settled : goal.returns-clause-settled
@@ -67,6 +63,6 @@ returns-clause-settled g c =
     let new = state g.S.Store c.finish.new.tx.0 in
     let is = begun_state g.S.Store c.args.conn.now c.transaction-tx.result.conn.now c.transaction-tx.ensures.begun in
     let whole : HasCleanDisk new → IsSettled new =
-    settled_finished old begun last new is c.file_inside-filed.ensures.survives c.args.known.now c.requires.known c.finish.ensures.survives (λ _ e. e ≡ Store) c.file_inside-filed.result c.finish.result c.file_inside-filed.ensures.kept c.finish.ensures.ends
-    c.file_inside-filed.new.known c.file_inside-filed.ensures.known in
+    settled_finished old begun last new is c.file_inside-filed.ensures.files.survives c.args.known.now c.requires.known c.finish.ensures.survives (λ _ e. e ≡ Store) c.file_inside-filed.result c.finish.result c.file_inside-filed.ensures.files.does.kept c.finish.ensures.ends
+    c.file_inside-filed.new.known c.file_inside-filed.ensures.files.does.knows in
     subst (λ (s : State). HasCleanDisk s → IsSettled s) (search rules) whole

@@ -1,30 +1,24 @@
-use Rattle.std.proofs.Common.{◌≡◌, ◌+◌, sym, subst, Result}
-use Rattle.std.specs.Prelude.{IfOk}
-use Rattle.sqlite.specs.Held.{state}
-use Rattle.machine.specs.Acts.{Act}
-use Rattle.machine.specs.Once.{IsSoundRequest}
-use Rattle.store.specs.declared.filing.Filed.{Filed}
-use Rattle.store.specs.declared.tally.RowFault.{RowFault}
-use Rattle.store.specs.Filing.{IsRowTaken}
-use Rattle.store.specs.Knowing.{GoesOnKnown}
+use Rattle.store.proofs.Words.{◌≡◌, ◌+◌, sym, subst, Result, IfOk, state, Act, IsSoundRequest, Filed, RowFault, IsInside, TakesRow}
 use Rattle.store.proofs.FilesInside.{row_taken, one_counted, where_acted}
 use Rattle.store.proofs.filing.take_row.Goals as goal
 
-pub returns-clause-taken : goal.returns-clause-taken
-returns-clause-taken g c clean kind first acts history books holds =
+pub returns-clause-takes : goal.returns-clause-takes
+returns-clause-takes g c =
     let act : Act = record { key = c.args.row.now.0; command = c.args.row.now.1 } in
-    let sound : IsSoundRequest act = record { kind = kind; key = c.every_key_is_sound.ensures.sound; command = c.every_command_is_sound.ensures.sound } in
     let old = state g.S.Store c.args.tx.now.conn.now in
     let done = c.act_inside-acted in
-    subst (λ (r : Result Filed RowFault). IsRowTaken first acts act c.args.so_far r old (state g.S.Store done.new.tx.conn.now)) (sym c.with_row.ensures)
-    (row_taken first acts act c.args.so_far old (state g.S.Store done.new.tx.conn.now) done.result sound history books (done.ensures.acts.acted clean kind first acts history (λ _. books) (λ _. holds) tt))
-
-pub returns-clause-known : goal.returns-clause-known
-returns-clause-known g c clean ready =
-    let old = state g.S.Store c.args.tx.now.conn.now in
-    let done = c.act_inside-acted in
-    subst (λ (r : Result Filed RowFault). GoesOnKnown c.args.known.now done.new.known r old (state g.S.Store done.new.tx.conn.now)) (sym c.with_row.ensures)
-    (where_acted c.args.so_far c.args.row.now.1 _ done.result (done.ensures.acts.knows clean (λ _. ready)).answered)
+    let new = state g.S.Store done.new.tx.conn.now in
+    let acts = done.ensures.acts in
+    subst (λ (r : Result Filed RowFault). IsInside (TakesRow act c.args.known.now done.new.known c.args.so_far r) old new) (sym c.with_row.ensures) (record {
+      survives = acts.survives;
+      does = record {
+        taken = λ clean kind first list history books holds.
+            let sound : IsSoundRequest act = record { kind = kind; key = c.every_key_is_sound.ensures.sound; command = c.every_command_is_sound.ensures.sound } in
+            row_taken first list act c.args.so_far old new done.result sound history books (acts.does.acted clean kind first list history (λ _. books) (λ _. holds) tt);
+        knows = λ clean ready. where_acted c.args.so_far c.args.row.now.1 _ done.result (acts.does.knows clean (λ _. ready)).answered;
+        kept = λ clean ready. acts.does.kept clean (λ _. ready);
+      };
+    })
 
 pub returns-clause-count : goal.returns-clause-count
 returns-clause-count g c =

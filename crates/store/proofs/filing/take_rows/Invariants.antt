@@ -1,12 +1,4 @@
-use Rattle.std.proofs.Common.{◌≡◌, ◌+◌, ℤ, List, drop}
-use Rattle.sqlite.specs.State.{HasCleanDisk, Survives, KeepsCommit}
-use Rattle.sqlite.specs.Held.{state}
-use Rattle.table_words.specs.Steps.{IsReady}
-use Rattle.machine.specs.Acts.{Act}
-use Rattle.machine.specs.Once.{IsHistory}
-use Rattle.slices.specs.Books.{IsBooksOf}
-use Rattle.store.specs.Knowing.{HasKnown}
-use Rattle.store.specs.Filing.{rows_of, AreKeysOf}
+use Rattle.store.proofs.Words.{◌≡◌, ◌+◌, ℤ, List, drop, HasCleanDisk, Survives, KeepsCommit, state, IsReady, Act, IsHistory, IsBooksOf, HasKnown, rows_of, AreKeysOf}
 use Rattle.store.proofs.FilesInside.{AreUnderWay}
 use Rattle.store.proofs.filing.take_rows.Given as goal
 

@@ -1,6 +1,4 @@
-use Rattle.std.proofs.Common.{[]}
-use Rattle.std.proofs.lemmas.Result.{err_from_is_err_and}
-use Rattle.sqlite.specs.Held.{state}
+use Rattle.store.proofs.Words.{[], err_from_is_err_and, state}
 use Rattle.store.proofs.HandedOn.{not_run_left}
 use Rattle.store.proofs.outside.find_open_outside.Goals as goal
 

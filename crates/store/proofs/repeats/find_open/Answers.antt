@@ -1,6 +1,4 @@
-use Rattle.std.proofs.Common.{[]}
-use Rattle.sqlite.specs.Held.{state}
-use Rattle.table_words.proofs.CallLemmas.{kept_unchanged}
+use Rattle.store.proofs.Words.{[], state, kept_unchanged}
 use Rattle.store.proofs.FaultsTold.{not_run_kept}
 use Rattle.store.proofs.repeats.find_open.Goals as goal
 

@@ -1,10 +1,8 @@
-use Rattle.std.proofs.Common.{rules}
-use Rattle.store.proofs.FaultsTold.{fault_is_store}
+use Rattle.store.proofs.Words.{ℕ, List, subst, state, with_repeat, Writes}
 use Rattle.store.proofs.repeats.keep_act.Goals as goal
 
-pub returns-in_err-put_repeat-clause-fault : goal.returns-in_err-put_repeat-clause-fault
-returns-in_err-put_repeat-clause-fault g c =
-    fault_is_store c.from_residual.result c.in_err-put_repeat.field-0.0 c.from_residual.ensures c.in_err-put_repeat.ensures.never_foreign
-
-pub returns-clause-done : goal.returns-clause-done
-returns-clause-done g c = search rules
+pub returns-clause-writes : goal.returns-clause-writes
+returns-clause-writes g c =
+    let change = c.args.change.now in
+    subst (λ (k : List ℕ). Writes {X = Unit {0}} (with_repeat (record { k = k; act = change.meta.acts; spell = c.args.spell; reply = change.text })) (state g.S.Store c.args.tx.now.conn.now) (state g.S.Store c.add.new.tx.conn.now) c.add.result)
+    c.text.ensures c.add.ensures.writes

@@ -1,50 +1,23 @@
-use Rattle.std.proofs.Common.{Ok, Err, subst, ◌∙◌}
-use Rattle.std.specs.Option.{option_copied}
-use Rattle.commands.specs.Tables.{Tables}
-use Rattle.sqlite.specs.Held.{state}
-use Rattle.queries.specs.Asked.{Asking}
-use Rattle.store.proofs.OpenedBooks.{store_else}
-use Rattle.store.proofs.ReadLater.{told_later, fault_later, kept_later}
+use Rattle.store.proofs.Words.{Err, subst, sym, option_copied, state, tables_of, IsInside, IsFoundAs, Looks, Fault}
+use Rattle.store.proofs.FaultsTold.{by_error}
+use Rattle.store.proofs.KnownKept.{none_answered}
+use Rattle.store.proofs.ReadLater.{finds_later, fails_later}
 use Rattle.store.proofs.showing.find_found.Goals as goal
 
-pub returns-in-Ok-clause-read : goal.returns-in-Ok-clause-read
-returns-in-Ok-clause-read g c clean first acts books knows =
-    let old = state g.S.Store c.args.tx.now.conn.now in
-    let mid = state g.S.Store c.find_open.new.tx.conn.now in
-    let new = state g.S.Store c.read.new.tx.conn.now in
-    let asks = Asking (option_copied c.args.known) c.args.rows.now c.read.new.rows (λ t found. g.Q.Query.is_in c.args.query.now t found) in
-    let told = told_later asks old mid new c.in_ok-find_open.ensures.open c.in-Ok.found c.in-Ok.ensures.read clean (λ up. (books up).ready) in
-    subst (λ (t : Tables). g.Q.Query.is_in c.args.query.now t c.in-Ok.found) (books told.0).rows.tables (told.1 (knows told.0)).0
+pub returns-in_err-find_open-clause-looks : goal.returns-in_err-find_open-clause-looks
+returns-in_err-find_open-clause-looks g c = record {
+  survives = c.find_open.ensures.survives;
+  does = record {
+    found = λ clean first acts books knows. by_error c.from_residual.result c.in_err-find_open.field-0.0 c.from_residual.ensures (λ r. IsFoundAs (g.Q.Query.is_in c.args.query.now (tables_of first acts)) r) c.in_err-find_open.ensures.fault;
+    knows = λ clean ready knows. none_answered _ c.from_residual.result c.from_residual.ensures.0;
+    kept = λ clean ready. c.in_err-find_open.ensures.kept clean;
+  };
+}
 
-pub returns-in-Ok-clause-known : goal.returns-in-Ok-clause-known
-returns-in-Ok-clause-known g c clean ready knows =
-    let old = state g.S.Store c.args.tx.now.conn.now in
-    let mid = state g.S.Store c.find_open.new.tx.conn.now in
-    let new = state g.S.Store c.read.new.tx.conn.now in
-    let asks = Asking (option_copied c.args.known) c.args.rows.now c.read.new.rows (λ t found. g.Q.Query.is_in c.args.query.now t found) in
-    let told = told_later asks old mid new c.in_ok-find_open.ensures.open c.in-Ok.found c.in-Ok.ensures.read clean ready in
-    (told.1 (knows told.0)).1
+pub returns-in-Ok-clause-looks : goal.returns-in-Ok-clause-looks
+returns-in-Ok-clause-looks g c = finds_later c.find_open.ensures.survives c.in_ok-find_open.ensures.open c.in-Ok.found c.in-Ok.ensures.read
 
-pub returns-in-Ok-clause-kept : goal.returns-in-Ok-clause-kept
-returns-in-Ok-clause-kept g c =
-    let old = state g.S.Store c.args.tx.now.conn.now in
-    let mid = state g.S.Store c.find_open.new.tx.conn.now in
-    let new = state g.S.Store c.read.new.tx.conn.now in
-    let asks = Asking (option_copied c.args.known) c.args.rows.now c.read.new.rows (λ t found. g.Q.Query.is_in c.args.query.now t found) in
-    kept_later asks old mid new c.in_ok-find_open.ensures.open (Ok c.in-Ok.found) c.in-Ok.ensures.read
-
-pub returns-in-Err-clause-fault : goal.returns-in-Err-clause-fault
-returns-in-Err-clause-fault g c clean first acts books =
-    let old = state g.S.Store c.args.tx.now.conn.now in
-    let mid = state g.S.Store c.find_open.new.tx.conn.now in
-    let new = state g.S.Store c.read.new.tx.conn.now in
-    let asks = Asking (option_copied c.args.known) c.args.rows.now c.read.new.rows (λ t found. g.Q.Query.is_in c.args.query.now t found) in
-    c.from.ensures ∙ store_else c.in-Err.fault (fault_later asks old mid new c.in_ok-find_open.ensures.open c.in-Err.fault c.in-Err.ensures.read clean first acts books)
-
-pub returns-in-Err-clause-kept : goal.returns-in-Err-clause-kept
-returns-in-Err-clause-kept g c =
-    let old = state g.S.Store c.args.tx.now.conn.now in
-    let mid = state g.S.Store c.find_open.new.tx.conn.now in
-    let new = state g.S.Store c.read.new.tx.conn.now in
-    let asks = Asking (option_copied c.args.known) c.args.rows.now c.read.new.rows (λ t found. g.Q.Query.is_in c.args.query.now t found) in
-    kept_later asks old mid new c.in_ok-find_open.ensures.open (Err c.in-Err.fault) c.in-Err.ensures.read
+pub returns-in-Err-clause-looks : goal.returns-in-Err-clause-looks
+returns-in-Err-clause-looks g c =
+    subst (λ (e : Fault). IsInside (Looks (λ t found. g.Q.Query.is_in c.args.query.now t found) (option_copied c.args.known) c.args.rows.now c.read.new.rows (Err e)) (state g.S.Store c.args.tx.now.conn.now) (state g.S.Store c.read.new.tx.conn.now))
+    (sym c.from.ensures) (fails_later c.find_open.ensures.survives c.in_ok-find_open.ensures.open c.in-Err.fault c.in-Err.ensures.read)

@@ -1,7 +1,4 @@
-use Rattle.std.proofs.Common.{subst}
-use Rattle.std.specs.Prelude.{Option}
-use Rattle.queries.specs.Asked.{IsKnownOf}
-use Rattle.slices.specs.declared.knowing.Known.{Known}
+use Rattle.store.proofs.Words.{subst, Option, IsKnownOf, Known}
 use Rattle.store.proofs.KnownShown.{holds_with}
 use Rattle.store.proofs.showing.know_rows.Goals as goal
 

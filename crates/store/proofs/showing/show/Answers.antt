@@ -1,20 +1,9 @@
-use Rattle.std.proofs.Common.{◌≡◌, rules, sym, subst}
-use Rattle.std.specs.Prelude.{Option}
-use Rattle.sqlite.specs.State.{State, HasCleanDisk}
-use Rattle.sqlite.specs.Held.{state}
-use Rattle.table_words.specs.Typed.{tables_in}
-use Rattle.machine.specs.Standing.{today}
-use Rattle.machine.specs.Tables.{tables_of}
-use Rattle.slices.specs.Remembering.{KnowsRows}
-use Rattle.slices.specs.declared.knowing.Known.{Known}
-use Rattle.queries.specs.Asked.{IsKnownOf}
-use Rattle.store.specs.Knowing.{IsKnown}
-use Rattle.store.specs.Showing.{IsFoundAs, IsShownOn}
+use Rattle.store.proofs.Words.{◌≡◌, rules, sym, subst, Option, State, HasCleanDisk, Survives, state, tables_in, today, tables_of, KnowsRows, Known, IsKnownOf, IsKnown, IsFoundAs, IsShownOn}
 use Rattle.store.proofs.ActsWhole.{begun_state}
 use Rattle.store.proofs.HandedOn.{Stays}
 use Rattle.store.proofs.KnownKept.{holds_begun}
 use Rattle.store.proofs.KnownShown.{known_shown}
-use Rattle.store.proofs.ShownWhole.{look_stays, ShownWhole, found_as, found_shown}
+use Rattle.store.proofs.ShownWhole.{look_stays, look_survives, ShownWhole, found_shown}
 use Rattle.store.proofs.showing.show.Goals as goal
 
 pub returns-clause-shown : goal.returns-clause-shown
@@ -25,13 +14,12 @@ returns-clause-shown g c =
     let last = state g.S.Store c.find_found-found.new.tx.conn.now in
     let new = state g.S.Store c.rollback.new.self.0 in
     let is = begun_state g.S.Store c.args.conn.now c.transaction-tx.result.conn.now c.transaction-tx.ensures.begun in
-    let found = c.find_found-found.ensures in
+    let found = c.find_found-found.ensures.looks in
     let whole : ShownWhole (λ first acts. today first acts ≡ c.args.day) (λ first acts. g.Q.Query.shown first acts query) c.view_of.result old new =
-    found_shown old begun last new is found.kept c.rollback.ensures.survives c.rollback.ensures.undone (λ first acts. today first acts ≡ c.args.day)
+    found_shown old begun last new is found.does.kept c.rollback.ensures.survives c.rollback.ensures.undone (λ first acts. today first acts ≡ c.args.day)
     (λ first acts. g.Q.Query.shown first acts query) (λ first acts. IsFoundAs (λ x. g.Q.Query.is_in query (tables_of first acts) x)) c.find_found-found.result c.view_of.result
-    (λ clean first acts history books. found_as (λ x. g.Q.Query.is_in query (tables_of first acts) x) c.find_found-found.result
-    (found.read clean first acts books (λ up. subst (λ (x : Option Known). IsKnownOf x (tables_in begun.now.trees) × KnowsRows (tables_in begun.now.trees) c.take_rows-rows.result) (sym c.as_ref.ensures.value)
-    (c.take_rows-rows.ensures (tables_in begun.now.trees) (holds_begun old begun last new is found.survives c.args.known.now c.requires.known clean up)))) (found.fault clean first acts books))
+    (λ clean first acts history books. found.does.found clean first acts books (λ up. subst (λ (x : Option Known). IsKnownOf x (tables_in begun.now.trees) × KnowsRows (tables_in begun.now.trees) c.take_rows-rows.result) (sym c.as_ref.ensures.value)
+    (c.take_rows-rows.ensures (tables_in begun.now.trees) (holds_begun old begun last new is found.survives c.args.known.now c.requires.known clean up))))
     (λ first acts history is_day so. c.view_of.ensures.shown first acts history is_day so) in
     λ clean first acts history held is_day.
     let told : HasCleanDisk new → IsShownOn first acts (g.Q.Query.shown first acts query) c.view_of.result new = λ here. whole here first acts history held is_day in
@@ -44,13 +32,13 @@ returns-clause-known g c =
     let last = state g.S.Store c.find_found-found.new.tx.conn.now in
     let new = state g.S.Store c.rollback.new.self.0 in
     let is = begun_state g.S.Store c.args.conn.now c.transaction-tx.result.conn.now c.transaction-tx.ensures.begun in
-    let found = c.find_found-found.ensures in
+    let found = c.find_found-found.ensures.looks in
     let t = tables_in begun.now.trees in
-    let stays : Stays old new = look_stays old begun last new is found.kept c.rollback.ensures.survives c.rollback.ensures.undone in
+    let stays : Stays old new = look_stays old begun last new is found.does.kept c.rollback.ensures.survives c.rollback.ensures.undone in
     let whole : IsKnown c.put_back.new.known new =
     known_shown old begun last new is found.survives c.args.known.now c.put_back.new.known c.requires.known c.rollback.ensures.survives stays (λ clean ready holds up.
     c.put_back.ensures t (c.take_rows-rows.ensures t (holds up)).0
-    (found.known clean ready (λ up. subst (λ (x : Option Known). IsKnownOf x t × KnowsRows t c.take_rows-rows.result) (sym c.as_ref.ensures.value) (c.take_rows-rows.ensures t (holds up))))) in
+    (found.does.knows clean ready (λ up. subst (λ (x : Option Known). IsKnownOf x t × KnowsRows t c.take_rows-rows.result) (sym c.as_ref.ensures.value) (c.take_rows-rows.ensures t (holds up))))) in
     subst (λ (s : State). IsKnown c.put_back.new.known s) (search rules) whole
 
 pub returns-clause-stays : goal.returns-clause-stays
@@ -60,5 +48,15 @@ returns-clause-stays g c =
     let last = state g.S.Store c.find_found-found.new.tx.conn.now in
     let new = state g.S.Store c.rollback.new.self.0 in
     let is = begun_state g.S.Store c.args.conn.now c.transaction-tx.result.conn.now c.transaction-tx.ensures.begun in
-    let whole : Stays old new = look_stays old begun last new is c.find_found-found.ensures.kept c.rollback.ensures.survives c.rollback.ensures.undone in
+    let whole : Stays old new = look_stays old begun last new is c.find_found-found.ensures.looks.does.kept c.rollback.ensures.survives c.rollback.ensures.undone in
     search (rules, whole)
+
+pub returns-clause-survives : goal.returns-clause-survives
+returns-clause-survives g c =
+    let old = state g.S.Store c.args.conn.now in
+    let begun = state g.S.Store c.transaction-tx.result.conn.now in
+    let last = state g.S.Store c.find_found-found.new.tx.conn.now in
+    let new = state g.S.Store c.rollback.new.self.0 in
+    let is = begun_state g.S.Store c.args.conn.now c.transaction-tx.result.conn.now c.transaction-tx.ensures.begun in
+    let whole : Survives old new (λ _. ⊥) = look_survives old begun last new is c.find_found-found.ensures.looks.survives c.rollback.ensures.survives in
+    subst (λ (s : State). Survives old s (λ _. ⊥)) (search rules) whole

@@ -1,11 +1,4 @@
-use Rattle.std.proofs.Common.{sym, subst}
-use Rattle.std.specs.Prelude.{Option}
-use Rattle.queries.specs.Asked.{IsKnownOf}
-use Rattle.slices.specs.Remembering.{KnowsRows, KnowsNoRows}
-use Rattle.slices.specs.Slicing.{HoldsOf}
-use Rattle.slices.specs.declared.knowing.Known.{Known}
-use Rattle.slices.specs.declared.rows_known.RowsKnown.{RowsKnown}
-use Rattle.slices.proofs.StillKnown.{no_rows_known}
+use Rattle.store.proofs.Words.{sym, subst, Option, IsKnownOf, KnowsRows, KnowsNoRows, HoldsOf, Known, RowsKnown, no_rows_known}
 use Rattle.store.proofs.KnownShown.{holds_with}
 use Rattle.store.proofs.showing.take_rows.Goals as goal
 

@@ -1,5 +1,4 @@
-use Rattle.std.proofs.Common.{subst}
-use Rattle.machine.specs.Tables.{tables_of}
+use Rattle.store.proofs.Words.{subst, tables_of}
 use Rattle.store.proofs.showing.view_of.Goals as goal
 
 pub returns-in-Ok-Err-clause-shown : goal.returns-in-Ok-Err-clause-shown

@@ -1,6 +1,4 @@
-use Rattle.sqlite.specs.Values.{bound}
-use Rattle.sqlite.specs.Held.{state}
-use Rattle.table_words.specs.declared.error.TableFault.TheVariants.{Foreign}
+use Rattle.table_words.proofs.Words.{bound, state, Foreign}
 use Rattle.table_words.proofs.CallLemmas.{kept_unchanged, query_keeps, query_same, query_none, none_unchanged, on_ok, on_err, shown_rows_read, shown_row_foreign}
 use Rattle.table_words.proofs.reading.query.Goals as goal
 

@@ -1,7 +1,4 @@
-use Rattle.std.proofs.Common.{◌≡◌, true, [], ◌∷◌, ◌++◌, ◌+◌, take, map, sym, subst, ap, ◌∙◌}
-use Rattle.std.specs.List.{AllByRecursion}
-use Rattle.std.proofs.lemmas.List.{take_more, map-append}
-use Rattle.sqlite_keyed.proofs.ListLemmas.{all-append}
+use Rattle.table_words.proofs.Words.{◌≡◌, true, [], ◌∷◌, ◌++◌, ◌+◌, take, map, sym, subst, ap, ◌∙◌, AllByRecursion, take_more, map-append, all-append}
 use Rattle.sqlite.specs.Order.{Row}
 use Rattle.table_words.proofs.reading.read_all.Goals as goal
 

@@ -1,5 +1,4 @@
-use Rattle.std.proofs.Common.{◌≡◌, true, map, take}
-use Rattle.std.specs.List.{AllByRecursion}
+use Rattle.table_words.proofs.Words.{◌≡◌, true, map, take, AllByRecursion}
 use Rattle.table_words.proofs.reading.read_all.Given as goal
 
 abbrev pub invariant-loop-row : goal.invariant-loop-row

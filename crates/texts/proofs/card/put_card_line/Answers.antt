@@ -1,6 +1,4 @@
-use Rattle.std.proofs.Common.{rules, w64}
-use Rattle.std.proofs.lemmas.Int.{to_z-of_z}
-use Rattle.std.specs.Prelude.{FitsSigned}
+use Rattle.texts.proofs.Words.{rules, w64, to_z-of_z, FitsSigned}
 use Rattle.texts.proofs.card.put_card_line.Goals as goal
 
 pub returns : goal.returns

@@ -1,8 +1,4 @@
-use Rattle.std.proofs.Common.{◌++◌, ◌∷◌, []}
-use Rattle.std.specs.Prelude.{codes}
-use Rattle.std.proofs.KnownBytes.{Appends-trans}
-use Rattle.texts.specs.Lines.{line}
-use Rattle.commands.specs.Words.{order_state_word}
+use Rattle.texts.proofs.Words.{◌++◌, ◌∷◌, [], codes, Appends-trans, line, order_state_word}
 use Rattle.texts.proofs.Beginnings.{cut_at, beginning_of_first, beginning_of_second, writes_behind}
 use Rattle.texts.proofs.picks.put_start.Goals as goal
 

@@ -1,9 +1,4 @@
-use Rattle.std.proofs.Common.{◌≡◌, ap, sym, ◌∙◌}
-use Rattle.std.specs.Prelude.{ℕ, ℤ, length}
-use Rattle.machine.specs.Standing.{today}
-use Rattle.overviews.specs.Pages.{page, goes_on}
-use Rattle.views.specs.GivenBin.{bin_lot_seen, bin_seen}
-use Rattle.views.specs.GivenExpiring.{all_found}
+use Rattle.views.proofs.Words.{◌≡◌, ap, sym, ◌∙◌, ℕ, ℤ, length, today, page, goes_on, bin_lot_seen, bin_seen, all_found}
 use Rattle.views.proofs.BinShown.{bin_shown}
 use Rattle.views.proofs.bin_lots.bin_view.Goals as goal
 

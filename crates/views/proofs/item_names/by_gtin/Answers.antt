@@ -1,7 +1,4 @@
-use Rattle.std.proofs.Common.{◌≡◌, rules, ap, ◌∙◌}
-use Rattle.std.proofs.lemmas.List.Sorted.{answers_always}
-use Rattle.std.specs.Prelude.{reverse}
-use Rattle.views.specs.GivenNames.{item_before}
+use Rattle.views.proofs.Words.{◌≡◌, rules, ap, ◌∙◌, answers_always, reverse, item_before}
 use Rattle.views.proofs.NamesShown.{items_ranked, items_sorted}
 use Rattle.views.proofs.item_names.by_gtin.Goals as goal
 

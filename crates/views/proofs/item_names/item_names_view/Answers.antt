@@ -1,7 +1,4 @@
-use Rattle.std.proofs.Common.{◌≡◌, ap, sym, ◌∙◌}
-use Rattle.std.specs.Prelude.{ℕ, map, take, length, nat_lt}
-use Rattle.overviews.specs.declared.lists.TheConstants.{NAMES_MAX}
-use Rattle.views.specs.GivenNames.{named_seen, names_seen}
+use Rattle.views.proofs.Words.{◌≡◌, ap, sym, ◌∙◌, ℕ, map, take, length, nat_lt, NAMES_MAX, named_seen, names_seen}
 use Rattle.views.proofs.NamesShown.{names_shown}
 use Rattle.views.proofs.item_names.item_names_view.Goals as goal
 

@@ -1,9 +1,4 @@
-use Rattle.std.proofs.Common.{◌≡◌, ◌+◌, [], ap, ◌∙◌}
-use Rattle.std.specs.Prelude.{filter, take}
-use Rattle.row_rules.specs.Plans.{inserted}
-use Rattle.overviews.specs.declared.lists.TheConstants.{NAMES_MAX}
-use Rattle.overviews.specs.Pages.{is_behind}
-use Rattle.views.specs.GivenNames.{item_before, items_and_more}
+use Rattle.views.proofs.Words.{◌≡◌, ◌+◌, [], ap, ◌∙◌, filter, take, inserted, NAMES_MAX, is_behind, item_before, items_and_more}
 use Rattle.views.proofs.NamesPage.{items_page_shown}
 use Rattle.views.proofs.item_names.items_page.Goals as goal
 

@@ -1,9 +1,4 @@
-use Rattle.std.proofs.Common.{sym, subst}
-use Rattle.sqlite.specs.Given.{IsPlain}
-use Rattle.sqlite.specs.Held.{state}
-use Rattle.sqlite.specs.Listing.{understood}
-use Rattle.sqlite.proofs.StateLemmas.{survives_weaker}
-use Rattle.sqlite.proofs.Callers.{never_commits}
+use Rattle.whole_tables.proofs.Words.{sym, subst, IsPlain, state, understood, survives_weaker, never_commits}
 use Rattle.whole_tables.proofs.Handing.{all_over}
 use Rattle.whole_tables.proofs.each.each_of_all.Goals as goal
 

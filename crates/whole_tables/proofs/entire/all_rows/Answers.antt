@@ -1,11 +1,4 @@
-use Rattle.std.proofs.Common.{◌≡◌, true, sym, subst}
-use Rattle.std.specs.List.{AllByRecursion}
-use Rattle.sqlite.specs.Given.{IsPlain}
-use Rattle.sqlite.specs.Held.{state}
-use Rattle.sqlite.specs.Listing.{understood}
-use Rattle.table_words.proofs.CallLemmas.{on_ok_if, if_ok, if_err}
-use Rattle.keyed_rows.proofs.Laws.{reads, typed_are}
-use Rattle.whole_tables.specs.Whole.{AreAll}
+use Rattle.whole_tables.proofs.Words.{◌≡◌, true, sym, subst, AllByRecursion, IsPlain, state, understood, on_ok_if, if_ok, if_err, reads, typed_are, AreAll}
 use Rattle.whole_tables.proofs.Wholes.{whole_query, whole_laws, all_kept}
 use Rattle.whole_tables.proofs.entire.all_rows.Goals as goal
 

@@ -1,9 +1,4 @@
-use Rattle.std.proofs.Common.{◌≡◌, [], ◌∷◌, sym, subst}
-use Rattle.sqlite.specs.declared.types.Value.TheVariants.{Int}
-use Rattle.sqlite.specs.Given.{IsPlain}
-use Rattle.sqlite.specs.Held.{state}
-use Rattle.sqlite.specs.Listing.{understood}
-use Rattle.table_words.proofs.CallLemmas.{on_ok_if, if_ok, if_err}
+use Rattle.whole_tables.proofs.Words.{◌≡◌, [], ◌∷◌, sym, subst, Int, IsPlain, state, understood, on_ok_if, if_ok, if_err}
 use Rattle.whole_tables.proofs.Halving.{half_typed, half_read}
 use Rattle.whole_tables.proofs.halves.half_rows.Goals as goal
 

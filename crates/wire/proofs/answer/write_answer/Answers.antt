@@ -1,6 +1,4 @@
-use Rattle.std.proofs.Common.{rules, ◌≡◌, ℕ, List, None, subst, ◌∙◌}
-use Rattle.std.specs.Prelude.{IfOk}
-use Rattle.wire.specs.Answers.{json_type, answer_text}
+use Rattle.wire.proofs.Words.{rules, ◌≡◌, ℕ, List, None, subst, ◌∙◌, IfOk, json_type, answer_text}
 use Rattle.wire.proofs.answer.write_answer.Goals as goal
 
 pub returns-in_ok-body-in-Books : goal.returns-in_ok-body-in-Books

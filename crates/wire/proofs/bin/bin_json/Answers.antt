@@ -1,5 +1,4 @@
-use Rattle.std.proofs.Common.{◌∙◌}
-use Rattle.wire.specs.Lists.{bin_view_data}
+use Rattle.wire.proofs.Words.{◌∙◌, bin_view_data}
 use Rattle.wire.proofs.Adding.{written_is}
 use Rattle.wire.proofs.bin.bin_json.Goals as goal
 

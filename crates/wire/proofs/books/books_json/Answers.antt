@@ -1,5 +1,4 @@
-use Rattle.std.proofs.Common.{◌∙◌}
-use Rattle.wire.specs.Lists.{books_data}
+use Rattle.wire.proofs.Words.{◌∙◌, books_data}
 use Rattle.wire.proofs.Adding.{written_is}
 use Rattle.wire.proofs.books.books_json.Goals as goal
 

@@ -1,5 +1,4 @@
-use Rattle.std.proofs.Common.{◌∙◌}
-use Rattle.wire.specs.Lists.{expiring_data}
+use Rattle.wire.proofs.Words.{◌∙◌, expiring_data}
 use Rattle.wire.proofs.Adding.{written_is}
 use Rattle.wire.proofs.expiring.expiring_json.Goals as goal
 

@@ -1,5 +1,4 @@
-use Rattle.std.proofs.Common.{◌∙◌}
-use Rattle.wire.specs.Lists.{item_names_data}
+use Rattle.wire.proofs.Words.{◌∙◌, item_names_data}
 use Rattle.wire.proofs.Adding.{written_is}
 use Rattle.wire.proofs.item_names.item_names_json.Goals as goal
 

@@ -1,5 +1,4 @@
-use Rattle.std.proofs.Common.{◌≡◌, take, drop}
-use Rattle.wire.specs.Logging.{cut_word}
+use Rattle.wire.proofs.Words.{◌≡◌, take, drop, cut_word}
 use Rattle.wire.proofs.LogLines.{cut_from}
 use Rattle.wire.proofs.logging.cut_word.Given as goal
 

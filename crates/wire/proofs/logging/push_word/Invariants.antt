@@ -1,5 +1,4 @@
-use Rattle.std.proofs.Common.{◌≡◌, ◌+◌, ◌≤◌, ◌++◌, length, take, map}
-use Rattle.wire.specs.Logging.{shown_byte}
+use Rattle.wire.proofs.Words.{◌≡◌, ◌+◌, ◌≤◌, ◌++◌, length, take, map, shown_byte}
 use Rattle.wire.proofs.logging.push_word.Given as goal
 
 abbrev pub invariant-loop-byte : goal.invariant-loop-byte

@@ -1,5 +1,4 @@
-use Rattle.std.proofs.Common.{◌≡◌, drop}
-use Rattle.wire.specs.Logging.{without_gap}
+use Rattle.wire.proofs.Words.{◌≡◌, drop, without_gap}
 use Rattle.wire.proofs.logging.without_gap.Given as goal
 
 abbrev pub invariant-loop-i : goal.invariant-loop-i

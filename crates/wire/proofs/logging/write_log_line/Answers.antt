@@ -1,5 +1,4 @@
-use Rattle.std.proofs.Common.{subst, ◌∙◌}
-use Rattle.texts.specs.Writing.{Writes}
+use Rattle.wire.proofs.Words.{subst, ◌∙◌, Writes}
 use Rattle.wire.proofs.logging.write_log_line.Goals as goal
 
 pub returns : goal.returns

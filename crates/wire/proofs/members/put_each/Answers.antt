@@ -1,6 +1,4 @@
-use Rattle.std.proofs.Common.{◌≡◌, ◌+◌, ◌∷◌, ◌++◌, [], drop, flat_map, refl, sym, ap, ◌∙◌, append_assoc, append-nil, arith}
-use Rattle.std.proofs.lemmas.Grind.{common_steps}
-use Rattle.wire.specs.Tokens.{data_tokens}
+use Rattle.wire.proofs.Words.{◌≡◌, ◌+◌, ◌∷◌, ◌++◌, [], drop, flat_map, refl, sym, ap, ◌∙◌, append_assoc, append-nil, arith, common_steps, data_tokens}
 use Rattle.wire.proofs.members.put_each.Goals as goal
 
 pub loop-item-preserved : goal.loop-item-preserved

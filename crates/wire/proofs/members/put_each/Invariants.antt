@@ -1,5 +1,4 @@
-use Rattle.std.proofs.Common.{◌≡◌, ◌++◌, drop, flat_map}
-use Rattle.wire.specs.Tokens.{data_tokens}
+use Rattle.wire.proofs.Words.{◌≡◌, ◌++◌, drop, flat_map, data_tokens}
 use Rattle.wire.proofs.members.put_each.Given as goal
 
 -- with the tokens of the items that are left it has those of all of them

@@ -1,6 +1,4 @@
-use Rattle.std.proofs.Common.{subst, sym, ◌∷◌, OnOk}
-use Rattle.json.specs.Token.{Token}
-use Rattle.wire.specs.Tokens.{Adds}
+use Rattle.wire.proofs.Words.{subst, sym, ◌∷◌, OnOk, Token, Adds}
 use Rattle.wire.proofs.Adding.{one_added, adds_last, list_tokens}
 use Rattle.wire.proofs.members.put_list.Goals as goal
 

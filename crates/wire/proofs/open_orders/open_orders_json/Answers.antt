@@ -1,5 +1,4 @@
-use Rattle.std.proofs.Common.{◌∙◌}
-use Rattle.wire.specs.Lists.{open_orders_data}
+use Rattle.wire.proofs.Words.{◌∙◌, open_orders_data}
 use Rattle.wire.proofs.Adding.{written_is}
 use Rattle.wire.proofs.open_orders.open_orders_json.Goals as goal
 

@@ -1,5 +1,4 @@
-use Rattle.std.proofs.Common.{◌∙◌}
-use Rattle.wire.specs.Views.{order_data}
+use Rattle.wire.proofs.Words.{◌∙◌, order_data}
 use Rattle.wire.proofs.Adding.{written_is}
 use Rattle.wire.proofs.order.order_json.Goals as goal
 

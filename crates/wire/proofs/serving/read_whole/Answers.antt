@@ -1,8 +1,4 @@
-use Rattle.std.proofs.Common.{[], inl, sym, subst, refl, rules, append-nil}
-use Rattle.std.specs.Io.KnownBytes.{Consumes}
-use Rattle.std.proofs.KnownBytes.{Consumes-nil}
-use Rattle.requests.specs.Requests.{IsReading}
-use Rattle.requests.specs.declared.request.Read.TheVariants.{Need}
+use Rattle.wire.proofs.Words.{[], inl, sym, subst, refl, rules, append-nil, Consumes, Consumes-nil, IsReading, Need}
 use Rattle.wire.proofs.Bounded.{bounded}
 use Rattle.wire.proofs.ReadOn.{needing_has_memory, settled, nearer, taken_on, at_stop}
 use Rattle.wire.proofs.serving.read_whole.Goals as goal

@@ -1,5 +1,4 @@
-use Rattle.std.proofs.Common.{◌-◌, length}
-use Rattle.std.specs.Io.KnownBytes.{Consumes}
+use Rattle.wire.proofs.Words.{◌-◌, length, Consumes}
 use Rattle.wire.proofs.serving.read_whole.Given as goal
 
 abbrev pub invariant-loop-fault : goal.invariant-loop-fault

@@ -1,6 +1,4 @@
-use Rattle.std.proofs.Common.{◌∙◌, ap}
-use Rattle.serde_json.specs.Written.{compact_text}
-use Rattle.wire.specs.Shorts.{cause_text, cause_data}
+use Rattle.wire.proofs.Words.{◌∙◌, ap, compact_text, cause_text, cause_data}
 use Rattle.wire.proofs.short.label_fault_text.Goals as goal
 
 pub returns-clause-text : goal.returns-clause-text

@@ -1,6 +1,4 @@
-use Rattle.std.proofs.Common.{◌∙◌, ap}
-use Rattle.serde_json.specs.Written.{compact_text}
-use Rattle.wire.specs.Shorts.{code_text, code_data}
+use Rattle.wire.proofs.Words.{◌∙◌, ap, compact_text, code_text, code_data}
 use Rattle.wire.proofs.short.refusal_text.Goals as goal
 
 pub returns-clause-text : goal.returns-clause-text

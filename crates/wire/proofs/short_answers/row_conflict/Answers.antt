@@ -1,6 +1,4 @@
-use Rattle.std.proofs.Common.{ap, ◌∙◌}
-use Rattle.std.specs.Prelude.{None}
-use Rattle.wire.specs.Answers.{answer_text, json_type}
+use Rattle.wire.proofs.Words.{ap, ◌∙◌, None, answer_text, json_type}
 use Rattle.wire.proofs.short_answers.row_conflict.Goals as goal
 
 pub returns : goal.returns

@@ -1,5 +1,4 @@
-use Rattle.std.proofs.Common.{◌∙◌}
-use Rattle.wire.specs.Views.{stock_data}
+use Rattle.wire.proofs.Words.{◌∙◌, stock_data}
 use Rattle.wire.proofs.Adding.{written_is}
 use Rattle.wire.proofs.stock.stock_json.Goals as goal
 

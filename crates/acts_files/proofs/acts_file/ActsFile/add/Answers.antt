@@ -1,6 +1,5 @@
-use Rattle.std.proofs.Common.{refl, length}
-use Rattle.acts_files.specs.declared.acts_file.ActsFile.{ActsFile}
-use Rattle.acts_files.proofs.Same.{keeps_then, no_more, passed_of, passed_same, same_keeps, text_same}
+use Rattle.acts_files.proofs.Words.{refl, length, ActsFile}
+use Rattle.acts_files.proofs.Same.{few_text, keeps_then, no_more, passed_of, passed_same, same_keeps, text_same}
 use Rattle.acts_files.proofs.acts_file.ActsFile.add.Goals as goal
 
 pub returns-clause-kept : goal.returns-clause-kept
@@ -13,7 +12,11 @@ returns-clause-kept g c begun newer older is done day keeps =
 pub returns-clause-few : goal.returns-clause-few
 returns-clause-few g c text has clean =
     let same = c.file_len.ensures.same in
-    c.put.ensures.few text (λ now. text_same g.D.Disk text c.args.self.now.len c.args.self.now.disk c.file_len.new.disk same (has (same.clean now))) clean
+    c.put.ensures.few text
+    (λ now.
+    let t = text_same g.D.Disk text c.args.self.now.len c.args.self.now.disk c.file_len.new.disk same (has (same.clean now)) in
+    (t.long, few_text g.D.Disk text c.args.self.now.len (length c.args.lines.now) c.file_len.new.disk t))
+    clean
 
 pub returns-clause-loses : goal.returns-clause-loses
 returns-clause-loses g c =

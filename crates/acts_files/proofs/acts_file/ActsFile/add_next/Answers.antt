@@ -1,6 +1,4 @@
-use Rattle.std.proofs.Common.{◌∙◌}
-use Rattle.std.proofs.lemmas.Result.{err_from_is_err_and, on_ok_weaker}
-use Rattle.histories.specs.Text.{history_text}
+use Rattle.acts_files.proofs.Words.{◌∙◌, err_from_is_err_and, on_ok_weaker, history_text}
 use Rattle.acts_files.proofs.Chunks.{none_added, lacks_whole, lacks_lines, on_err_both}
 use Rattle.acts_files.proofs.Same.{keeps_itself}
 use Rattle.acts_files.proofs.acts_file.ActsFile.add_next.Goals as goal

@@ -1,8 +1,4 @@
-use Rattle.std.proofs.Common.{rules, ◌≡◌, ◌++◌, length, refl, ◌∙◌, ap, subst, sym}
-use Rattle.std.proofs.lemmas.Result.{err_from_is_err_and}
-use Rattle.machine.specs.Once.{IsHistory}
-use Rattle.store.specs.Books.{HoldsBooks}
-use Rattle.store.proofs.AsBefore.{as_before_itself, as_before_then}
+use Rattle.acts_files.proofs.Words.{rules, ◌≡◌, ◌++◌, length, refl, ◌∙◌, ap, subst, sym, err_from_is_err_and, IsHistory, HoldsBooks, as_before_itself, as_before_then}
 use Rattle.acts_files.proofs.Chunks.{added_then, all_added, lacks_then, lacks_whole, none_added, whole_of}
 use Rattle.acts_files.proofs.Same.{keeps_itself, keeps_then}
 use Rattle.acts_files.proofs.Survive.{none_later, survives_itself}

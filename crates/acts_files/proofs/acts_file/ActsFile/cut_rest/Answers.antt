@@ -1,10 +1,5 @@
-use Rattle.std.proofs.Common.{rules, ◌≡◌, ◌-◌, [], length, drop, inr, refl, sym, subst, ◌∙◌, arith, IsTrue}
-use Rattle.std.specs.Prelude.{min}
-use Rattle.act_lines.specs.Reading.{IsNumbered}
-use Rattle.acts_files.specs.Opened.{IsNotPut}
-use Rattle.acts_files.specs.Torn.{IsPartOf}
-use Rattle.acts_files.specs.declared.acts_file.ActsFile.{ActsFile}
-use Rattle.acts_files.specs.declared.fault.ActsFault.TheVariants.{Differs, Lacks}
+use Rattle.acts_files.proofs.Words.{rules, ◌≡◌, ◌-◌, [], length, drop, inr, refl, sym, subst, ◌∙◌, arith, IsTrue, min, IsNumbered, IsNotPut, IsPartOf, ActsFile, Differs, Lacks}
+use Rattle.acts_files.proofs.Left.{at_most_same}
 use Rattle.acts_files.proofs.Lines.{part_lineless}
 use Rattle.acts_files.proofs.Opens.{cut_keeps, other_behind, put_cut}
 use Rattle.acts_files.proofs.Read.{bears_more, head_begins, head_taken, no_part_behind, part_behind}
@@ -99,3 +94,15 @@ returns-in_err-cut_to-clause-loses g c low measured =
     (λ read. let size = measured (same.clean read) in
     part_lineless _ (part_behind c.args.next (g.D.Disk.seen old.disk) c.in_ok-head.head.items old.len c.args.size size low long (c.in_ok-head.ensures.read read (omega (arith, long, c.in_ok-head.ensures.long, size, low))) part).part)
     (cut_texts g.D.Disk mid new refl (λ clean. subst IsTrue c.cut_to.ensures.calm clean) c.cut_to.ensures.loses))
+
+pub returns-clause-short : goal.returns-clause-short
+returns-clause-short g c most low before = at_most_same g.D.Disk most c.args.self.now.disk c.bytes_at.new.disk c.bytes_at.ensures.same before
+
+pub returns-in_err-head-clause-short : goal.returns-in_err-head-clause-short
+returns-in_err-head-clause-short g c most low before = at_most_same g.D.Disk most c.args.self.now.disk c.bytes_at.new.disk c.bytes_at.ensures.same before
+
+pub returns-then-is_part_of-clause-short : goal.returns-then-is_part_of-clause-short
+returns-then-is_part_of-clause-short g c most low before = c.cut_to.ensures.short most low (at_most_same g.D.Disk most c.args.self.now.disk c.bytes_at.new.disk c.bytes_at.ensures.same before)
+
+pub returns-in_err-cut_to-clause-short : goal.returns-in_err-cut_to-clause-short
+returns-in_err-cut_to-clause-short g c most low before = c.cut_to.ensures.short most low (at_most_same g.D.Disk most c.args.self.now.disk c.bytes_at.new.disk c.bytes_at.ensures.same before)

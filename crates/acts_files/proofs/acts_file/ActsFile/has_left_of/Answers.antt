@@ -1,5 +1,4 @@
-use Rattle.std.proofs.Common.{rules, ◌≡◌, ◌-◌, sym, subst, ◌∙◌, arith, IsTrue}
-use Rattle.acts_files.specs.Torn.{IsLeftOf}
+use Rattle.acts_files.proofs.Words.{rules, ◌≡◌, ◌-◌, sym, subst, ◌∙◌, arith, IsTrue, IsLeftOf}
 use Rattle.acts_files.proofs.Read.{behind}
 use Rattle.acts_files.proofs.acts_file.ActsFile.has_left_of.Goals as goal
 

@@ -1,10 +1,6 @@
-use Rattle.std.proofs.Common.{◌++◌, [], List, append-nil, length, sym, ap, subst, ◌∙◌}
-use Rattle.std.proofs.lemmas.Result.{err_from_is_err_and, on_ok_weaker, IfErr-weaker}
-use Rattle.machine.specs.Acts.{Act}
-use Rattle.machine.specs.Once.{IsHistory}
-use Rattle.store.specs.Books.{HoldsBooks}
-use Rattle.acts_files.specs.KeptActs.{KeepsActs}
+use Rattle.acts_files.proofs.Words.{◌++◌, [], List, append-nil, length, sym, ap, subst, ◌∙◌, err_from_is_err_and, on_err_weaker, on_ok_weaker, IfErr-weaker, Act, IsHistory, HoldsBooks, KeepsActs, LeavesOldest}
 use Rattle.acts_files.proofs.Chunks.{on_ok_any, whole_of}
+use Rattle.acts_files.proofs.Left.{left_from, left_lacking, left_same, on_err_any}
 use Rattle.acts_files.proofs.Opens.{not_opened_as, not_told, opened_as, whole_passed}
 use Rattle.acts_files.proofs.Same.{keeps_from, keeps_loses, keeps_on, loses_from, loses_none}
 use Rattle.acts_files.proofs.Survive.{none_later}
@@ -92,3 +88,39 @@ returns-clause-survives g c =
     let s = g.S.Store in
     none_later s c.args.books.now c.put_right.new.books c.bring_up.new.books (none_later s c.args.books.now c.walk.new.books c.put_right.new.books c.walk.ensures.survives c.put_right.ensures.survives c.walk.ensures.holds) c.bring_up.ensures.survives
     (λ clean first acts history holds. c.put_right.ensures.holds clean first acts history (c.walk.ensures.holds (c.put_right.ensures.clean clean) first acts history holds))
+
+pub returns-in_err-found-clause-leaves : goal.returns-in_err-found-clause-leaves
+returns-in_err-found-clause-leaves g c clean first acts history holds start =
+    on_err_any c.from_residual.result (left_same g.D.Disk c.args.self.now.day acts c.args.self.now.disk c.walk.new.self.disk c.walk.ensures.same)
+
+pub returns-in_err-put_right-clause-leaves : goal.returns-in_err-put_right-clause-leaves
+returns-in_err-put_right-clause-leaves g c clean first acts history holds start =
+    let s = g.S.Store in
+    let d = g.D.Disk in
+    let begun = c.args.self.now.day in
+    let mid = c.walk.new.self in
+    let w = c.in_ok-found.ensures.walked (c.put_right.ensures.clean clean) first acts history holds start in
+    let h = w.1.1 in
+    let older = h.more.passed ++ [] in
+    let is = sym (append-nil acts) ∙ whole_passed d begun acts [] mid h.more in
+    let left = c.in_err-put_right.ensures.leaves clean first begun h.more.later older (subst (IsHistory first) is history) (subst (λ (l : List Act). HoldsBooks s first l c.walk.new.books) is w.0) (w.1.0 ∙ ap length is) h.more.has c.in_ok-found.ensures.measured (c.in_ok-found.ensures.within start.0) in
+    on_err_any c.from_residual-in_err-put_right.result
+    (left_from d begun acts c.args.self.now.disk mid.disk c.put_right.new.self.disk c.walk.ensures.same (subst (λ (l : List Act). LeavesOldest d begun l mid.disk c.put_right.new.self.disk) (sym is) left))
+
+pub returns-clause-leaves : goal.returns-clause-leaves
+returns-clause-leaves g c clean first acts history holds start =
+    let s = g.S.Store in
+    let d = g.D.Disk in
+    let begun = c.args.self.now.day in
+    let mid = c.walk.new.self in
+    let put = c.put_right.new.self in
+    let soon = c.bring_up.ensures.clean clean in
+    let w = c.in_ok-found.ensures.walked (c.put_right.ensures.clean soon) first acts history holds start in
+    let h = w.1.1 in
+    let older = h.more.passed ++ [] in
+    let is = sym (append-nil acts) ∙ whole_passed d begun acts [] mid h.more in
+    let p = c.in_ok-put_right.ensures.put soon first begun h.more.later older (subst (IsHistory first) is history) (subst (λ (l : List Act). HoldsBooks s first l c.walk.new.books) is w.0) (w.1.0 ∙ ap length is) h.more.has h.end c.in_ok-found.ensures.measured (c.in_ok-found.ensures.within start.0) in
+    let k = p.1.keeps in
+    let all = is ∙ whole_of d begun h.more.later older put k in
+    let up = c.bring_up.ensures.kept clean first begun k.later (k.added ++ older) (subst (IsHistory first) all history) (subst (λ (l : List Act). HoldsBooks s first l c.put_right.new.books) (whole_of d begun h.more.later older put k) p.0) k.keeps in
+    on_err_weaker c.bring_up.result (λ lacks. left_lacking d begun acts k.later (k.added ++ older) c.args.self.now.disk c.bring_up.new.self.disk all lacks.has) up.2

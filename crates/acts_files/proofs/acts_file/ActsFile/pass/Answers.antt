@@ -1,7 +1,4 @@
-use Rattle.std.proofs.Common.{rules, ◌≡◌, ◌≤◌, ◌++◌, true, false, length, sym, ap, subst, ◌∙◌, arith}
-use Rattle.std.proofs.lemmas.Result.{err_from_is_err_and}
-use Rattle.machine.specs.Once.{IsHistory}
-use Rattle.store.specs.Books.{HoldsBooks}
+use Rattle.acts_files.proofs.Words.{rules, ◌≡◌, ◌≤◌, ◌++◌, true, false, length, sym, ap, subst, ◌∙◌, arith, err_from_is_err_and, IsHistory, HoldsBooks}
 use Rattle.acts_files.proofs.Opens.{passes_none, passes_then, walked_all, walked_on, whole_passed}
 use Rattle.acts_files.proofs.Same.{same_file, same_then}
 use Rattle.acts_files.proofs.Survive.{none_later, survives_itself}

@@ -1,12 +1,4 @@
-use Rattle.std.proofs.Common.{◌≡◌, ◌≤◌, ℤ, List, ◌++◌, length}
-use Rattle.sqlite.specs.Held.{state}
-use Rattle.sqlite.specs.State.{Survives}
-use Rattle.machine.specs.Acts.{Act}
-use Rattle.machine.specs.Once.{IsHistory}
-use Rattle.store.specs.Books.{IsClean, HoldsBooks}
-use Rattle.acts_files.specs.Kept.{IsSameFile}
-use Rattle.acts_files.specs.KeptActs.{HasPassed, NoHistory}
-use Rattle.acts_files.specs.Opened.{IsMeasured, PassesMore}
+use Rattle.acts_files.proofs.Words.{◌≡◌, ◌≤◌, ℤ, List, ◌++◌, length, state, Survives, Act, IsHistory, IsClean, HoldsBooks, IsSameFile, HasPassed, NoHistory, IsMeasured, PassesMore}
 use Rattle.acts_files.proofs.acts_file.ActsFile.pass.Given as goal
 
 abbrev pub invariant-loop : goal.invariant-loop

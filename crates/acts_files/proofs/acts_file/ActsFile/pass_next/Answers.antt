@@ -1,5 +1,4 @@
-use Rattle.std.proofs.Common.{rules, ◌≡◌, true, false, length, refl, sym, ap, ◌∙◌, arith}
-use Rattle.acts_files.specs.declared.acts_file.ActsFile.{ActsFile}
+use Rattle.acts_files.proofs.Words.{rules, ◌≡◌, true, false, length, refl, sym, ap, ◌∙◌, arith, ActsFile}
 use Rattle.acts_files.proofs.Opens.{passes_next, stops_next}
 use Rattle.acts_files.proofs.acts_file.ActsFile.pass_next.Goals as goal
 

@@ -1,7 +1,4 @@
-use Rattle.std.proofs.Common.{◌+◌, ◌++◌, length, sym, subst, ap, ◌∙◌, arith, IsTrue}
-use Rattle.histories.specs.Text.{history_text}
-use Rattle.acts_files.specs.Kept.{HasText}
-use Rattle.acts_files.proofs.Same.{few_text}
+use Rattle.acts_files.proofs.Words.{◌+◌, ◌++◌, length, sym, subst, ap, ◌∙◌, arith, IsTrue, history_text, HasText}
 use Rattle.acts_files.proofs.TextParts.{goes_on}
 use Rattle.acts_files.proofs.acts_file.ActsFile.put.Goals as goal
 
@@ -22,12 +19,12 @@ returns-clause-kept g c begun newer older is done day was few =
 pub returns-clause-few : goal.returns-clause-few
 returns-clause-few g c text has clean =
     let was = has (subst IsTrue c.append.ensures.calm clean) in
-    c.append.ensures.few text was.long (few_text g.D.Disk text c.args.self.now.len (length c.args.lines.now) c.args.self.now.disk was)
+    c.append.ensures.few text was.0 was.1
 
 pub returns-in_err-append-clause-few : goal.returns-in_err-append-clause-few
 returns-in_err-append-clause-few g c text has clean =
     let was = has (subst IsTrue c.append.ensures.calm clean) in
-    c.append.ensures.few text was.long (few_text g.D.Disk text c.args.self.now.len (length c.args.lines.now) c.args.self.now.disk was)
+    c.append.ensures.few text was.0 was.1
 
 pub returns-clause-loses : goal.returns-clause-loses
 returns-clause-loses g c = record {

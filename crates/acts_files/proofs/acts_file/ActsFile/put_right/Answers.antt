@@ -1,12 +1,8 @@
-use Rattle.std.proofs.Common.{IsTrue, rules, ◌≡◌, ◌≤◌, ◌<◌, ◌+◌, true, false, length, length-append, inl, inr, sym, ap, subst, ◌∙◌, arith}
-use Rattle.std.specs.Prelude.{OnOk, IfErr}
-use Rattle.std.proofs.lemmas.Result.{on_ok_weaker, IfErr-weaker}
-use Rattle.machine.specs.Acts.{next_number}
-use Rattle.acts_files.specs.Opened.{IsPut, IsNotPut, rest_of}
-use Rattle.acts_files.specs.Torn.{IsLeftOf}
+use Rattle.acts_files.proofs.Words.{IsTrue, rules, ◌≡◌, ◌≤◌, ◌<◌, ◌+◌, ◌++◌, true, false, length, length-append, inl, inr, sym, ap, subst, ◌∙◌, arith, OnOk, IfErr, on_ok_weaker, IfErr-weaker, next_number, IsPut, IsNotPut, rest_of, IsLeftOf}
 use Rattle.acts_files.proofs.Chunks.{on_ok_any}
+use Rattle.acts_files.proofs.Left.{left_put, left_same, left_short, on_err_any}
 use Rattle.acts_files.proofs.Opens.{differs, no_longer, no_newer_left, not_put, of_file, put_over}
-use Rattle.acts_files.proofs.Same.{keeps_loses, passed_same, put_keeps}
+use Rattle.acts_files.proofs.Same.{keeps_loses, passed_same, put_keeps, same_file}
 use Rattle.acts_files.proofs.acts_file.ActsFile.put_right.Goals as goal
 
 pub returns-then-self-all-clause-put : goal.returns-then-self-all-clause-put
@@ -71,3 +67,35 @@ returns-clause-put g c clean first begun newer older history holds all was ends 
             (λ now left. let yes = (c.in_ok-has_left_of.ensures.left now measured low).1 (subst (λ t. IsLeftOf t (rest_of g.D.Disk old)) (sym (c.as_slice.ensures.value ∙ l.are.text)) left) in let both : false ≡ true = sym isnt ∙ yes in cc)
       ],
     )
+
+pub returns-then-self-all-clause-leaves : goal.returns-then-self-all-clause-leaves
+returns-then-self-all-clause-leaves g c clean first begun newer older history holds all was measured low =
+    on_err_any c.cut_rest.result (left_short g.D.Disk begun (newer ++ older) c.args.size c.args.self.now c.cut_rest.new.self c.cut_rest.ensures.calm measured low c.cut_rest.ensures.short)
+
+pub returns-then-branch-clause-leaves : goal.returns-then-branch-clause-leaves
+returns-then-branch-clause-leaves g c clean first begun newer older history holds all was measured low =
+    let d = g.D.Disk in
+    let old = c.args.self.now in
+    let mid = c.has_left_of.new.self in
+    let l = (c.in_ok-lines.ensures.told clean first begun newer older history holds all was.done was.day).1 in
+    let is : c.in_ok-has_left_of.field-0 ≡ true = search rules in
+    let bytes = c.as_slice-then-branch.result.now in
+    on_err_any c.put.result
+    (left_put d begun newer older old mid c.put.new.self l.next bytes was c.has_left_of.ensures.same c.has_left_of.ensures.kept.0 l.are_next (c.as_slice-then-branch.ensures.value ∙ l.are.text) c.put.ensures.loses.clean
+    (λ now. (subst (λ t. IsLeftOf t (rest_of d old)) (c.as_slice.ensures.value ∙ sym c.as_slice-then-branch.ensures.value) ((c.in_ok-has_left_of.ensures.left now measured low).0 is)).few) c.put.ensures.few)
+
+pub returns-clause-leaves : goal.returns-clause-leaves
+returns-clause-leaves g c clean first begun newer older history holds all was measured low =
+    left_same g.D.Disk begun (newer ++ older) c.args.self.now.disk c.has_left_of.new.self.disk c.has_left_of.ensures.same
+
+pub returns-in_default-clause-leaves : goal.returns-in_default-clause-leaves
+returns-in_default-clause-leaves g c clean first begun newer older history holds all was measured low =
+    left_same g.D.Disk begun (newer ++ older) c.args.self.now.disk c.args.self.now.disk (same_file g.D.Disk c.args.self.now.disk)
+
+pub returns-in_err-has_left_of-clause-leaves : goal.returns-in_err-has_left_of-clause-leaves
+returns-in_err-has_left_of-clause-leaves g c clean first begun newer older history holds all was measured low =
+    on_err_any c.from_residual-in_err-has_left_of.result (left_same g.D.Disk begun (newer ++ older) c.args.self.now.disk c.has_left_of.new.self.disk c.has_left_of.ensures.same)
+
+pub returns-in_err-lines-clause-leaves : goal.returns-in_err-lines-clause-leaves
+returns-in_err-lines-clause-leaves g c clean first begun newer older history holds all was measured low =
+    on_err_any c.from_residual.result (left_same g.D.Disk begun (newer ++ older) c.args.self.now.disk c.args.self.now.disk (same_file g.D.Disk c.args.self.now.disk))

@@ -1,8 +1,4 @@
-use Rattle.std.proofs.Common.{IsTrue, ◌++◌, [], List, append-nil, length, refl, sym, ap, subst, ◌∙◌}
-use Rattle.machine.specs.Acts.{Act}
-use Rattle.machine.specs.Once.{IsHistory}
-use Rattle.store.specs.Books.{HoldsBooks}
-use Rattle.acts_files.specs.declared.acts_file.ActsFile.{ActsFile}
+use Rattle.acts_files.proofs.Words.{IsTrue, ◌++◌, [], List, append-nil, length, refl, sym, ap, subst, ◌∙◌, Act, IsHistory, HoldsBooks, ActsFile}
 use Rattle.acts_files.proofs.Opens.{more_then, none_passed, whole_passed}
 use Rattle.acts_files.proofs.Same.{same_then}
 use Rattle.acts_files.proofs.Survive.{none_later}

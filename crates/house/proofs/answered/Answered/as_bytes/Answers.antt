@@ -1,5 +1,4 @@
-use Rattle.std.proofs.Common.{ap, sym, ◌∙◌}
-use Rattle.house.specs.House.{bytes_of}
+use Rattle.house.proofs.Words.{ap, sym, ◌∙◌, bytes_of}
 use Rattle.house.proofs.answered.Answered.as_bytes.Goals as goal
 
 pub returns-in-Long : goal.returns-in-Long

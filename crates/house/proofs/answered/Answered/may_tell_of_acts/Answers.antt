@@ -1,7 +1,4 @@
-use Rattle.std.proofs.Common.{sym, ap, subst, ◌∙◌}
-use Rattle.house.specs.Answers.{status_of}
-use Rattle.house.specs.House.{bytes_of}
-use Rattle.house.specs.Keeping.{TellsNoAct}
+use Rattle.house.proofs.Words.{sym, ap, subst, ◌∙◌, status_of, bytes_of, TellsNoAct}
 use Rattle.house.proofs.OkStatus.{begins_ok}
 use Rattle.house.proofs.answered.Answered.may_tell_of_acts.Goals as goal
 

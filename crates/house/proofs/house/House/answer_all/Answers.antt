@@ -1,10 +1,4 @@
-use Rattle.std.proofs.Common.{◌≡◌, ◌≢◌, ◌+◌, take, true, sym, ap, subst, subst₂, ◌∙◌, rules, arith}
-use Rattle.std.specs.Prelude.{[], All, codes, map, is_ok}
-use Rattle.std.proofs.lemmas.Grind.{common_steps}
-use Rattle.sqlite.specs.Held.{state}
-use Rattle.store.proofs.AsBefore.{as_before_itself}
-use Rattle.house.specs.Answers.{status_of}
-use Rattle.house.specs.House.{books_of, bytes_of, texts_of, StepsTo, RunsTo}
+use Rattle.house.proofs.Words.{◌≡◌, ◌≢◌, ◌+◌, take, true, sym, ap, subst, subst₂, ◌∙◌, rules, arith, [], All, codes, map, is_ok, common_steps, state, as_before_itself, status_of, books_of, bytes_of, texts_of, StepsTo, RunsTo}
 use Rattle.house.proofs.Unanswered.{run_unanswered}
 use Rattle.house.proofs.Running.{run_none, run_on, texts_more, answers_more}
 use Rattle.house.proofs.house.House.answer_all.Goals as goal

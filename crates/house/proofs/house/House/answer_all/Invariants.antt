@@ -1,10 +1,4 @@
-use Rattle.std.proofs.Common.{◌≡◌, ◌≢◌, ◌≤◌, ℤ, List, length, take}
-use Rattle.std.specs.Prelude.{All, codes, map, vec_len, vec_capacity}
-use Rattle.machine.specs.Acts.{Act}
-use Rattle.machine.specs.Once.{IsHistory}
-use Rattle.store.specs.Books.{IsClean, HoldsBooks, AreAsBefore}
-use Rattle.house.specs.Answers.{status_of}
-use Rattle.house.specs.House.{books_of, bytes_of, texts_of, RunsTo}
+use Rattle.house.proofs.Words.{◌≡◌, ◌≢◌, ◌≤◌, ℤ, List, length, take, All, codes, map, vec_len, vec_capacity, Act, IsHistory, IsClean, HoldsBooks, AreAsBefore, status_of, books_of, bytes_of, texts_of, RunsTo}
 use Rattle.house.proofs.house.House.answer_all.Given as goal
 
 abbrev pub invariant-loop-request : goal.invariant-loop-request

@@ -1,7 +1,5 @@
-use Rattle.std.proofs.Common.{subst}
-use Rattle.requests.specs.Requests.{IsReading}
+use Rattle.house.proofs.Words.{subst, IsReading, as_before_itself}
 use Rattle.house.proofs.Stepping.{told_fault, asked, in_place}
-use Rattle.store.proofs.AsBefore.{as_before_itself}
 use Rattle.house.proofs.house.House.answer_reading.Goals as goal
 
 pub returns-in-Request-clause-step : goal.returns-in-Request-clause-step

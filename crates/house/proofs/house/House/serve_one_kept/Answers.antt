@@ -1,10 +1,6 @@
-use Rattle.std.proofs.Common.{List, refl, inr, sym, ◌∙◌, true≢false}
-use Rattle.machine.specs.Acts.{Act}
-use Rattle.machine.specs.Once.{IsHistory}
-use Rattle.store.specs.Books.{HoldsBooks}
-use Rattle.house.specs.House.{books_of, bytes_of}
-use Rattle.house.proofs.Serving.{whole, writes, logs}
-use Rattle.house.proofs.Kept.{answers_later, unanswered_later, steps_later, keeps_on, kept_if_told}
+use Rattle.house.proofs.Words.{List, refl, inr, sym, ap, ◌∙◌, true≢false, Act, IsHistory, HoldsBooks, books_of, bytes_of, sent_of}
+use Rattle.house.proofs.Serving.{whole, writes, logs_sent}
+use Rattle.house.proofs.Kept.{no_memory_unlike, answers_later, unanswered_later, steps_later, keeps_on, leaves_on, kept_if_told}
 use Rattle.house.proofs.house.House.serve_one_kept.Goals as goal
 
 pub returns-in-Ok-clause-served : goal.returns-in-Ok-clause-served
@@ -23,13 +19,17 @@ returns-in-Ok-clause-served g c clean first acts history holds written =
               (c.keep-kept.ensures.holds clean first steps.after steps.history steps.holds) c.keep-kept.ensures.survives;
           written = writes c.write_kept-answered.result _ _ _ _ c.as_bytes.ensures c.write_kept-answered.ensures.written;
         },
-        logs c.write_log_line-logged.result _ _ r.text c.in-Ok.heard.text.items r.lost _ _ bytes c.in-Ok.heard.reading r.parts c.as_slice.ensures.value c.as_bytes-in-Ok.ensures
-            c.answer_reading-answer.ensures.memory r.kept c.write_log_line-logged.ensures,
+        logs_sent c.keep-kept.result c.write_log_line-logged.result _ _ r.text c.in-Ok.heard.text.items r.lost _ _ bytes c.in-Ok.heard.reading r.parts c.as_slice.ensures.value
+            (c.sent_bytes-sent.ensures ∙ ap (sent_of c.keep-kept.result) c.as_bytes-in-Ok.ensures) c.answer_reading-answer.ensures.memory (λ none. c.keep-kept.ensures.asked (no_memory_unlike bytes none)) r.kept
+            c.write_log_line-logged.ensures,
       ),
-      λ begun keeps.
-          keeps_on first acts r.text answer steps.after c.keep-kept.result (λ (l : List Act). IsHistory first l × HoldsBooks g.S.Store first l (books_of c.answer_reading-answer.new.self)) (g.K.Keeper.keeps c.keep-kept.new.keeper begun)
-          (c.answer_reading-answer.ensures.in_place r.text r.read) steps.step (steps.history, steps.holds)
-          (λ newer is none. c.keep-kept.ensures.kept clean first begun newer acts is.0 is.1 none keeps),
+      λ begun keeps. (
+        keeps_on first acts r.text answer steps.after c.keep-kept.result (λ (l : List Act). IsHistory first l × HoldsBooks g.S.Store first l (books_of c.answer_reading-answer.new.self)) (g.K.Keeper.keeps c.keep-kept.new.keeper begun)
+            (c.answer_reading-answer.ensures.in_place r.text r.read) steps.step (steps.history, steps.holds)
+            (λ newer is none. c.keep-kept.ensures.kept clean first begun newer acts is.0 is.1 none keeps),
+        leaves_on first acts r.text bytes steps.after c.keep-kept.result (λ (l : List Act). IsHistory first l × HoldsBooks g.S.Store first l (books_of c.answer_reading-answer.new.self)) (g.K.Keeper.leaves c.keep-kept.new.keeper begun acts)
+            steps.step (steps.history, steps.holds) (λ newer is. c.keep-kept.ensures.leaves clean first begun newer acts is.0 is.1 keeps),
+      ),
     )
 
 pub returns-in-Ok-clause-as_before : goal.returns-in-Ok-clause-as_before
@@ -54,8 +54,9 @@ returns-in-Ok-clause-as_before g c clean written =
             steps_later g.S.Store was mid new first acts r.text bytes steps clean (c.keep-kept.ensures.holds clean first steps.after steps.history steps.holds) c.keep-kept.ensures.survives;
         written = writes c.write_kept-answered.result _ _ _ _ c.as_bytes.ensures c.write_kept-answered.ensures.written;
       },
-      logs c.write_log_line-logged.result _ _ r.text c.in-Ok.heard.text.items r.lost _ _ bytes c.in-Ok.heard.reading r.parts c.as_slice.ensures.value c.as_bytes-in-Ok.ensures
-          c.answer_reading-answer.ensures.memory r.kept c.write_log_line-logged.ensures,
+      logs_sent c.keep-kept.result c.write_log_line-logged.result _ _ r.text c.in-Ok.heard.text.items r.lost _ _ bytes c.in-Ok.heard.reading r.parts c.as_slice.ensures.value
+          (c.sent_bytes-sent.ensures ∙ ap (sent_of c.keep-kept.result) c.as_bytes-in-Ok.ensures) c.answer_reading-answer.ensures.memory (λ none. c.keep-kept.ensures.asked (no_memory_unlike bytes none)) r.kept
+          c.write_log_line-logged.ensures,
       c.is_ok-is_ok.ensures,
     )
 

@@ -1,5 +1,4 @@
-use Rattle.std.specs.Option.{option_copied}
-use Rattle.known_reads.proofs.ReadSteps.{fails_first, then_read}
+use Rattle.queries.proofs.Words.{option_copied, fails_first, then_read}
 use Rattle.queries.proofs.Asked.{asked}
 use Rattle.queries.proofs.BinRight.{no_bin, of_bin}
 use Rattle.queries.proofs.shown_bin.BinQueryQuery.read.Goals as goal

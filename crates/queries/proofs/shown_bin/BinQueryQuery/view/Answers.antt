@@ -1,7 +1,4 @@
-use Rattle.std.proofs.Common.{◌∙◌}
-use Rattle.overviews.specs.Pages.{bin_view}
-use Rattle.overviews.specs.Shown.{bin_shown}
-use Rattle.views.specs.ShownBin.{known_bin}
+use Rattle.queries.proofs.Words.{◌∙◌, bin_view, bin_shown, known_bin}
 use Rattle.queries.proofs.OpenRight.{view_told}
 use Rattle.queries.proofs.BinRight.{bin_right}
 use Rattle.queries.proofs.shown_bin.BinQueryQuery.view.Goals as goal

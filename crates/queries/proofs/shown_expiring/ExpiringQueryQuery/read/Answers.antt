@@ -1,8 +1,4 @@
-use Rattle.std.proofs.Common.{ℤ, Some, None, subst}
-use Rattle.std.specs.Option.{option_copied}
-use Rattle.known_reads.proofs.ReadSteps.{has_read, fails_first, fails_later}
-use Rattle.known_reads.proofs.KnowingSteps.{and_known}
-use Rattle.queries.specs.ShownExpiring.{AreExpiring}
+use Rattle.queries.proofs.Words.{ℤ, Some, None, subst, option_copied, has_read, fails_first, fails_later, and_known, AreExpiring}
 use Rattle.queries.proofs.Asked.{asked}
 use Rattle.queries.proofs.ExpiringRight.{expiring_from_first, expiring_behind, no_lot}
 use Rattle.queries.proofs.shown_expiring.ExpiringQueryQuery.read.Goals as goal

@@ -1,6 +1,4 @@
-use Rattle.std.proofs.Common.{◌∙◌}
-use Rattle.overviews.specs.Pages.{expiring_view}
-use Rattle.overviews.specs.Shown.{expiring_shown}
+use Rattle.queries.proofs.Words.{◌∙◌, expiring_view, expiring_shown}
 use Rattle.queries.proofs.OpenRight.{view_told}
 use Rattle.queries.proofs.ExpiringRight.{expiring_right}
 use Rattle.queries.proofs.shown_expiring.ExpiringQueryQuery.view.Goals as goal

@@ -1,6 +1,4 @@
-use Rattle.std.specs.Option.{option_copied}
-use Rattle.known_reads.proofs.ReadSteps.{has_read, fails_first, fails_later}
-use Rattle.known_reads.proofs.KnowingSteps.{and_known}
+use Rattle.queries.proofs.Words.{option_copied, has_read, fails_first, fails_later, and_known}
 use Rattle.queries.proofs.Asked.{asked}
 use Rattle.queries.proofs.NamesRight.{names_from_first, names_behind, no_item}
 use Rattle.queries.proofs.shown_names.ItemNamesQueryQuery.read.Goals as goal

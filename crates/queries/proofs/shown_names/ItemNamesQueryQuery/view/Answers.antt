@@ -1,8 +1,4 @@
-use Rattle.std.proofs.Common.{◌∙◌}
-use Rattle.overviews.specs.Pages.{item_names_view}
-use Rattle.overviews.specs.Shown.{item_names_shown}
-use Rattle.views.specs.ShownNames.{AreAsked}
-use Rattle.std.proofs.Common.{subst, sym}
+use Rattle.queries.proofs.Words.{◌∙◌, item_names_view, item_names_shown, AreAsked, subst, sym}
 use Rattle.queries.proofs.OpenRight.{view_told}
 use Rattle.queries.proofs.NamesRight.{names_right}
 use Rattle.queries.proofs.shown_names.ItemNamesQueryQuery.view.Goals as goal

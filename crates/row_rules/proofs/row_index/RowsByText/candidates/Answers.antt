@@ -1,5 +1,4 @@
-use Rattle.std.proofs.Common.{◌≡◌, length, rules}
-use Rattle.std.specs.Prelude.{reverse}
+use Rattle.row_rules.proofs.Words.{◌≡◌, length, rules, reverse}
 use Rattle.row_rules.proofs.LookingUp.{others_given}
 use Rattle.row_rules.proofs.row_index.RowsByText.candidates.Goals as goal
 

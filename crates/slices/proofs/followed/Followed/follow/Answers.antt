@@ -1,15 +1,4 @@
-use Rattle.std.proofs.Common.{List, refl, subst}
-use Rattle.std.specs.Prelude.{reverse}
-use Rattle.std.specs.Ordering.{nat_cmp}
-use Rattle.std.specs.Cmp.Lexicographic.{slice_cmp}
-use Rattle.commands.specs.declared.rows.LineRow.{LineRow}
-use Rattle.commands.specs.declared.rows.LotRow.{LotRow}
-use Rattle.commands.specs.declared.rows.OrderRow.{OrderRow}
-use Rattle.commands.specs.declared.rows.UrgentRow.{UrgentRow}
-use Rattle.slice_lists.specs.LotOrder.{lot_key as turned_lot, lot_key_cmp}
-use Rattle.slice_lists.specs.LineOrder.{turned_line, line_key_cmp}
-use Rattle.known_rows.specs.Keyed.{same_lot_row, same_order_row, same_urgent_row, same_line_row}
-use Rattle.known_rows.specs.KnownRows.{ChangesBy, with_put}
+use Rattle.slices.proofs.Words.{List, refl, subst, reverse, nat_cmp, slice_cmp, LineRow, LotRow, OrderRow, UrgentRow, turned_lot, lot_key_cmp, turned_line, line_key_cmp, same_lot_row, same_order_row, same_urgent_row, same_line_row, ChangesBy, with_put}
 use Rattle.slices.proofs.followed.Followed.follow.Goals as goal
 
 pub returns : goal.returns
@@ -24,6 +13,8 @@ returns c =
       lines_at = subst (λ (rows : List LineRow). ChangesBy line_key_cmp (λ (r : LineRow). turned_line (r.order, r.gtin)) (with_put same_line_row) rows old.lines_at.rows c.put_all-6.new.self.rows) c.as_slice-6.ensures c.put_all-6.ensures;
       stock = c.follow_stock.ensures;
       staged = c.follow_staged.ensures;
+      staged_for = c.follow_staged_for.ensures;
       reserved = c.follow_reserved.ensures;
+      reserved_for = c.follow_reserved_for.ensures;
       meta = refl;
     }

@@ -1,15 +1,5 @@
-use Rattle.std.proofs.Common.{sym, subst}
-use Rattle.sqlite.specs.Held.{state}
-use Rattle.table_words.specs.Typed.{tables_in}
-use Rattle.open_orders.specs.OpenLines.{Keeps}
-use Rattle.slices.specs.Bounding.{IsRaised}
-use Rattle.slices.specs.Following.{KnowsFollowed}
-use Rattle.slices.specs.Remembering.{ForgetsPut}
-use Rattle.slices.specs.declared.followed.Followed.{Followed}
-use Rattle.slices.specs.declared.knowing.Bounds.{Bounds}
-use Rattle.slices.specs.declared.knowing.Known.{Known}
-use Rattle.slices.specs.declared.rows_known.RowsKnown.{RowsKnown}
-use Rattle.slices.proofs.ReadTold.{read_fault, read_same, read_kept}
+use Rattle.slices.proofs.Words.{sym, subst, state, tables_in, Keeps, IsRaised, KnowsFollowed, ForgetsPut, Followed, Bounds, Known, RowsKnown}
+use Rattle.slices.proofs.ReadSteps.{as_told}
 use Rattle.slices.proofs.LinesRead.{put_read, followed_read}
 use Rattle.slices.proofs.StillKnown.{forgets_beside}
 use Rattle.slices.proofs.knowing.Known.add_change.Goals as goal
@@ -41,22 +31,10 @@ returns-clause-followed g c clean ready up known =
     followed_read c.args.put.now before c.read_change-added.new.self c.forget_unread.new.self old last c.read_change-added.result c.read_change-added.ensures.read c.forget_unread.ensures.read c.forget_unread.ensures.unread clean ready up
     (subst (λ (f : Followed). KnowsFollowed (tables_in old.now.trees) f) (sym c.forget_put.ensures.followed) known)
 
-pub returns-clause-known : goal.returns-clause-known
-returns-clause-known g c clean ready up known =
+pub returns-clause-read : goal.returns-clause-read
+returns-clause-read g c =
     let old = state g.S.Store c.args.tx.now.conn.now in
     let last = state g.S.Store c.read_change-added.new.tx.conn.now in
     let before = record c.args.self.now { bounds = c.raised-self.result; rows = c.forget_put.new.self } in
-    put_read c.args.put.now before c.read_change-added.new.self c.forget_unread.new.self old last c.read_change-added.result c.read_change-added.ensures.read c.forget_unread.ensures.same clean ready up
-    (subst (λ (f : Followed). KnowsFollowed (tables_in old.now.trees) f) (sym c.forget_put.ensures.followed) known)
-
-pub returns-clause-fault : goal.returns-clause-fault
-returns-clause-fault g c clean = read_fault _ (state g.S.Store c.args.tx.now.conn.now) (state g.S.Store c.read_change-added.new.tx.conn.now) c.read_change-added.result c.read_change-added.ensures.read clean
-
-pub returns-clause-same : goal.returns-clause-same
-returns-clause-same g c = read_same _ (state g.S.Store c.args.tx.now.conn.now) (state g.S.Store c.read_change-added.new.tx.conn.now) c.read_change-added.result c.read_change-added.ensures.read
-
-pub returns-clause-kept : goal.returns-clause-kept
-returns-clause-kept g c = read_kept _ (state g.S.Store c.args.tx.now.conn.now) (state g.S.Store c.read_change-added.new.tx.conn.now) c.read_change-added.result c.read_change-added.ensures.read
-
-pub returns-clause-survives : goal.returns-clause-survives
-returns-clause-survives g c = c.read_change-added.ensures.read.survives
+    as_told (put_read c.args.put.now before c.read_change-added.new.self c.forget_unread.new.self old last c.read_change-added.result c.read_change-added.ensures.read c.forget_unread.ensures.same)
+    (λ t x tells known. tells (subst (λ (f : Followed). KnowsFollowed t f) (sym c.forget_put.ensures.followed) known))

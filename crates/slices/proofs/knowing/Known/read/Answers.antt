@@ -1,20 +1,12 @@
-use Rattle.sqlite.specs.Held.{state}
-use Rattle.slices.specs.Slicing.{IsFirstKnown}
-use Rattle.slices.proofs.ReadTold.{read_fault, read_same, read_kept}
-use Rattle.slices.proofs.LinesRead.{first_read}
+use Rattle.slices.proofs.Words.{Known}
+use Rattle.slices.proofs.ReadSteps.{so_told, fails_first}
+use Rattle.slices.proofs.LinesRead.{first_known}
 use Rattle.slices.proofs.knowing.Known.read.Goals as goal
 
+pub returns-in_err-lines-clause-read : goal.returns-in_err-lines-clause-read
+returns-in_err-lines-clause-read g c = fails_first c.from_residual.ensures c.in_err-lines.ensures.read
+
 pub returns-clause-read : goal.returns-clause-read
-returns-clause-read g c = first_read (state g.S.Store c.args.tx.now.conn.now) (state g.S.Store c.read_tables.new.tx.conn.now) c.read_tables.result c.read_tables.ensures.read
-
-pub returns-clause-fault : goal.returns-clause-fault
-returns-clause-fault g c clean = read_fault IsFirstKnown (state g.S.Store c.args.tx.now.conn.now) (state g.S.Store c.read_tables.new.tx.conn.now) c.read_tables.result c.read_tables.ensures.read clean
-
-pub returns-clause-same : goal.returns-clause-same
-returns-clause-same g c = read_same IsFirstKnown (state g.S.Store c.args.tx.now.conn.now) (state g.S.Store c.read_tables.new.tx.conn.now) c.read_tables.result c.read_tables.ensures.read
-
-pub returns-clause-kept : goal.returns-clause-kept
-returns-clause-kept g c = read_kept IsFirstKnown (state g.S.Store c.args.tx.now.conn.now) (state g.S.Store c.read_tables.new.tx.conn.now) c.read_tables.result c.read_tables.ensures.read
-
-pub returns-clause-survives : goal.returns-clause-survives
-returns-clause-survives g c = c.read_tables.ensures.read.survives
+returns-clause-read g c =
+    let known : Known = record { lines = c.in_ok-lines.lines; urgent = c.in_ok-lines.urgent; bounds = c.unknown.result; rows = c.new.result } in
+    so_told c.in_ok-lines.ensures.read (λ t h. first_known t known h c.unknown.ensures c.new.ensures)

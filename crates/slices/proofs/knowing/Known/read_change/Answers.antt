@@ -1,15 +1,6 @@
-use Rattle.std.proofs.Common.{List, sym, subst}
-use Rattle.commands.specs.Tables.{Tables}
-use Rattle.commands.specs.declared.rows.LineRow.{LineRow}
-use Rattle.commands.specs.declared.rows.UrgentRow.{UrgentRow}
-use Rattle.sqlite.specs.declared.error.Error.TheVariants.{SqliteFailure}
-use Rattle.sqlite.specs.declared.error.ErrorCode.TheVariants.{OutOfMemory}
-use Rattle.open_orders.specs.OpenLines.{Gains, has_line_row}
-use Rattle.slices.specs.Following.{KnowsFollowed}
-use Rattle.slices.specs.Slicing.{urgent_lines, AreLinesPut, AreUrgentsPut}
-use Rattle.slices.specs.declared.rows_known.RowsKnown.{RowsKnown}
+use Rattle.slices.proofs.Words.{List, sym, subst, Tables, LineRow, UrgentRow, SqliteFailure, OutOfMemory, Gains, has_line_row, KnowsFollowed, urgent_lines, AreLinesPut, AreUrgentsPut, RowsKnown}
 use Rattle.slices.proofs.Covering.{knows_put}
-use Rattle.known_reads.proofs.ReadSteps.{has_read, read_on, and_then, so_told, fails_first, fails_later, no_room_left}
+use Rattle.slices.proofs.ReadSteps.{has_read, read_on, and_then, so_told, fails_first, fails_later, no_room_left}
 use Rattle.slices.proofs.knowing.Known.read_change.Goals as goal
 
 pub returns-in_err-lines-clause-read : goal.returns-in_err-lines-clause-read
@@ -38,5 +29,5 @@ returns-clause-read g c =
     let urgents_told = h.1 known.urgents in (
       told t lines_told.0 urgents_told.0,
       subst (λ (rows : RowsKnown). KnowsFollowed t rows.followed) (sym c.in_ok-add_lines.ensures.rows)
-          (record { lots = known.lots; lots_of = known.lots_of; orders = known.orders; urgents = urgents_told.1; lines = lines_told.1; lines_at = known.lines_at; stock = known.stock; staged = known.staged; reserved = known.reserved; meta = known.meta }),
+          (record { lots = known.lots; lots_of = known.lots_of; orders = known.orders; urgents = urgents_told.1; lines = lines_told.1; lines_at = known.lines_at; stock = known.stock; staged = known.staged; staged_for = known.staged_for; reserved = known.reserved; reserved_for = known.reserved_for; meta = known.meta }),
     ))

@@ -1,12 +1,4 @@
-use Rattle.std.proofs.Common.{List, subst}
-use Rattle.std.specs.Prelude.{reverse}
-use Rattle.std.specs.Ordering.{nat_cmp}
-use Rattle.std.specs.Cmp.Lexicographic.{slice_cmp}
-use Rattle.commands.specs.declared.rows.BinRow.{BinRow}
-use Rattle.commands.specs.declared.rows.ItemRow.{ItemRow}
-use Rattle.commands.specs.declared.rows.LeastRow.{LeastRow}
-use Rattle.commands.specs.declared.rows.RecallRow.{RecallRow}
-use Rattle.known_rows.specs.KnownRows.{ForgetsBy}
+use Rattle.slices.proofs.Words.{List, subst, reverse, nat_cmp, slice_cmp, BinRow, ItemRow, LeastRow, RecallRow, ForgetsBy}
 use Rattle.slices.proofs.rows_known.RowsKnown.forget_put.Goals as goal
 
 pub returns-clause-forgets : goal.returns-clause-forgets

@@ -1,17 +1,4 @@
-use Rattle.std.proofs.Common.{sym, subst, arith}
-use Rattle.std.specs.Prelude.{ℤ, List}
-use Rattle.commands.specs.declared.key.Key.{Key}
-use Rattle.commands.specs.declared.command.Command.{Command}
-use Rattle.sqlite.specs.Held.{state}
-use Rattle.sqlite.specs.State.{HasCleanDisk, Survives}
-use Rattle.sqlite.specs.Tree.{Trees}
-use Rattle.sqlite_trees.specs.declared.store.Store.{Ghosts}
-use Rattle.machine.specs.Acts.{Act}
-use Rattle.machine.specs.Once.{IsHistory, acts_after_file}
-use Rattle.store.specs.Books.{HoldsBooks, KeepsBooks, AreBooks, IsAsBefore}
-use Rattle.store.specs.Connected.{Connected}
-use Rattle.store.specs.Filing.{rows_of, AreKeysOf}
-use Rattle.machine.proofs.histories.Runs.{history_file}
+use Rattle.store.proofs.Words.{sym, subst, arith, ℤ, List, Key, Command, state, HasCleanDisk, Survives, Trees, Ghosts, Act, IsHistory, acts_after_file, HoldsBooks, KeepsBooks, AreBooks, IsAsBefore, Connected, rows_of, AreKeysOf, history_file}
 use Rattle.store.proofs.AsBefore.{as_before}
 use Rattle.store.proofs.ActsWhole.{kept_acts}
 use Rattle.store.proofs.BooksWhole.{idle_then, known_unread}

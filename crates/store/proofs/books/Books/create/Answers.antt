@@ -1,8 +1,4 @@
-use Rattle.std.proofs.Common.{[], Err, ap, sym, ◌∙◌, rules}
-use Rattle.sqlite.specs.Held.{state}
-use Rattle.table_words.specs.declared.error.TableFault.TheVariants.{Foreign as ForeignTable}
-use Rattle.store.specs.Books.{AreBooks}
-use Rattle.store.specs.Faults.{fault_of}
+use Rattle.store.proofs.Words.{[], Err, ap, sym, ◌∙◌, rules, state, TableForeign as ForeignTable, AreBooks, fault_of}
 use Rattle.books_schema.specs.declared.ready_connection.Leftover.TheVariants as left
 use Rattle.store.proofs.ActsWhole.{kept_acts}
 use Rattle.store.proofs.BooksWhole.{known_unread, settled_books}

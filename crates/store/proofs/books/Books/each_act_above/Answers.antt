@@ -1,6 +1,4 @@
-use Rattle.std.proofs.Common.{subst}
-use Rattle.sqlite.specs.Held.{state}
-use Rattle.store.specs.Books.{IsAsBefore}
+use Rattle.store.proofs.Words.{subst, state, IsAsBefore}
 use Rattle.store.proofs.BooksWhole.{whole_then, look_kept}
 use Rattle.store.proofs.books.Books.each_act_above.Goals as goal
 

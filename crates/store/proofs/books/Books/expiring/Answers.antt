@@ -1,7 +1,4 @@
-use Rattle.std.proofs.Common.{sym, subst}
-use Rattle.sqlite.specs.Held.{state}
-use Rattle.overviews.specs.Shown.{expiring_shown}
-use Rattle.store.specs.Books.{HoldsBooks, IsAsBefore}
+use Rattle.store.proofs.Words.{sym, subst, state, expiring_shown, HoldsBooks, IsAsBefore}
 use Rattle.store.proofs.BooksWhole.{idle_then, look_kept, shown_by_books}
 use Rattle.store.proofs.books.Books.expiring.Goals as goal
 

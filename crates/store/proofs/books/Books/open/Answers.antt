@@ -1,12 +1,4 @@
-use Rattle.std.proofs.Common.{◌≡◌, inl, inr, sym, subst, ◌∙◌, arith, rules}
-use Rattle.std.specs.Prelude.{ℤ}
-use Rattle.sqlite.specs.Held.{state}
-use Rattle.sqlite.specs.State.{HasCleanDisk}
-use Rattle.sqlite.specs.Tree.{Trees}
-use Rattle.books_schema.specs.Opening.{HasDayIn, AreReadTyped}
-use Rattle.books_schema.specs.declared.ready_connection.Found.{Found}
-use Rattle.machine.specs.Standing.{today}
-use Rattle.store.specs.Opening.{AreRowsAt}
+use Rattle.store.proofs.Words.{◌≡◌, inl, inr, sym, subst, ◌∙◌, arith, rules, ℤ, state, HasCleanDisk, Trees, HasDayIn, AreReadTyped, Found, today, AreRowsAt}
 use Rattle.store.proofs.ActsWhole.{kept_acts}
 use Rattle.store.proofs.BooksWhole.{known_unread, settled_opened}
 use Rattle.store.proofs.OpenedBooks.{opened_from, opened_as_found, keeps_found, schema_opened, has_day, came_typed, read_typed, same_found, one_found, foreign_if, store_else, either_told, left_over}

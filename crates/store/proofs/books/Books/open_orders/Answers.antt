@@ -1,7 +1,4 @@
-use Rattle.std.proofs.Common.{sym, subst}
-use Rattle.sqlite.specs.Held.{state}
-use Rattle.overviews.specs.Shown.{open_orders_shown}
-use Rattle.store.specs.Books.{HoldsBooks, IsAsBefore}
+use Rattle.store.proofs.Words.{sym, subst, state, open_orders_shown, HoldsBooks, IsAsBefore}
 use Rattle.store.proofs.BooksWhole.{idle_then, look_kept, shown_by_books}
 use Rattle.store.proofs.books.Books.open_orders.Goals as goal
 

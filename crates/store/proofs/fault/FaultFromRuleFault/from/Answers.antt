@@ -1,5 +1,4 @@
-use Rattle.std.proofs.Common.{ap, sym}
-use Rattle.store.specs.Faults.{fault_of_rule}
+use Rattle.store.proofs.Words.{ap, sym, fault_of_rule}
 use Rattle.store.proofs.fault.FaultFromRuleFault.from.Goals as goal
 
 pub returns-in-Refused : goal.returns-in-Refused

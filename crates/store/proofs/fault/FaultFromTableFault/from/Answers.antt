@@ -1,5 +1,4 @@
-use Rattle.std.proofs.Common.{ap, sym}
-use Rattle.store.specs.Faults.{fault_of}
+use Rattle.store.proofs.Words.{ap, sym, fault_of}
 use Rattle.store.proofs.fault.FaultFromTableFault.from.Goals as goal
 
 pub returns-in-Store : goal.returns-in-Store

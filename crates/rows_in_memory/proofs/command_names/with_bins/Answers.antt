@@ -1,0 +1,6 @@
+use Rattle.rows_in_memory.proofs.Words.{◌∙◌, StockRow}
+use Rattle.rows_in_memory.proofs.NamesOnce.{names_once}
+use Rattle.rows_in_memory.proofs.command_names.with_bins.Goals as goal
+
+pub returns : goal.returns
+returns c keyed = c.into_values.ensures ∙ c.in_ok-add_all.ensures.added keyed ∙ names_once (λ (r : StockRow). r.bin) c.args.stock.now c.args.list.values.items

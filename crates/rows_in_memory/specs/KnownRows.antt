@@ -1,0 +1,68 @@
+-- Rows that are known by what they were sought by.
+use Rattle.std.specs.Prelude.{◌≡◌, ◌⊎◌, ℕ, ◌+◌, length, Bool, true, false, not, if◌then◌else◌, List, [], ◌∷◌, ◌++◌, filter, Option, Some, None, IfSome, Vec}
+use Rattle.std.specs.declared.alloc.Global.{Global}
+use Rattle.std.specs.List.{list_any, sum_by}
+use Rattle.std.specs.Option.{option_map}
+use Rattle.std.specs.Ordering.{is_eq}
+use Rattle.std.specs.declared.cmp.Ordering.{Ordering}
+use Rattle.std.specs.BTreeMap.{BTreeMap, get, values}
+
+-- lists of rows by the keys of what they were sought by
+abbrev pub RowMap : Type 0 → Type 0 → Type 0
+RowMap K R = BTreeMap K (Vec R Global)
+
+-- what a list weighs: 1, and each of its rows 1 more
+abbrev pub list_weight : {R : Type 0} → Vec R Global → ℕ
+list_weight rows = length rows.items + 1
+
+-- what lists weigh together
+abbrev pub map_weight : {K R : Type 0} → RowMap K R → ℕ
+map_weight m = sum_by list_weight (values m)
+
+-- the list without the row under the key of this one, and with the row in its place
+abbrev pub without_row : {R : Type 0} → (R → R → Bool) → R → List R → List R
+without_row same r rows = filter (λ x. not (same x r)) rows
+
+abbrev pub with_put : {R : Type 0} → (R → R → Bool) → R → List R → List R
+with_put same r rows = without_row same r rows ++ r ∷ []
+
+module _ {K R : Type 0} (cmp : K → K → Ordering) where
+  -- the rows that are known under a key
+  abbrev pub rows_at : RowMap K R → K → Option (List R)
+  rows_at m k = option_map (λ (v : Vec R Global). v.items) (get cmp m k)
+
+  abbrev pub KnowsNone : RowMap K R → Type 0
+  KnowsNone m = (q : K) → rows_at m q ≡ None
+
+  -- what is known after was known before
+  abbrev pub IsPart : RowMap K R → RowMap K R → Type 0
+  IsPart old new = (q : K) → IfSome (rows_at new q) (λ found. rows_at old q ≡ Some found)
+
+  -- or it is these rows, under this key
+  abbrev pub LearnsAt : K → List R → RowMap K R → RowMap K R → Type 0
+  LearnsAt k rows old new = (q : K) → IfSome (rows_at new q) (λ found. ((is_eq (cmp k q) ≡ true) × (found ≡ rows)) ⊎ (rows_at old q ≡ Some found))
+
+  -- what was known before is known after, but for what is under this key
+  abbrev pub ForgetsAt : K → RowMap K R → RowMap K R → Type 0
+  ForgetsAt k old new = (q : K) → rows_at new q ≡ (if is_eq (cmp k q) then None else rows_at old q)
+
+  -- what is known after was known before, and not under the key of one of these rows
+  abbrev pub ForgetsBy : (R → K) → List R → RowMap K R → RowMap K R → Type 0
+  ForgetsBy key rows old new = (q : K) → IfSome (rows_at new q) (λ found. (rows_at old q ≡ Some found) × (list_any (λ r. is_eq (cmp (key r) q)) rows ≡ false))
+
+  -- what is known after was known before, with this change under this key
+  abbrev pub ChangesAt : K → (List R → List R) → RowMap K R → RowMap K R → Type 0
+  ChangesAt k change old new = (q : K) → IfSome (rows_at new q) (λ found. (before : List R) × (rows_at old q ≡ Some before) × (found ≡ (if is_eq (cmp k q) then change before else before)))
+
+  -- the list that is known under a key, with the changes of the rows whose key it is
+  abbrev pub each_changed : (R → K) → (R → List R → List R) → List R → K → List R → List R
+  each_changed key change [] q before = before
+  each_changed key change (r ∷ rs) q before = each_changed key change rs q (if is_eq (cmp (key r) q) then change r before else before)
+
+  -- what is known after was known before, with the changes of these rows
+  abbrev pub ChangesBy : (R → K) → (R → List R → List R) → List R → RowMap K R → RowMap K R → Type 0
+  ChangesBy key change rows old new = (q : K) → IfSome (rows_at new q) (λ found. (before : List R) × (rows_at old q ≡ Some before) × (found ≡ each_changed key change rows q before))
+
+  -- what is known of the rows that are sought is so
+  abbrev pub Remembers : {B : Type 0} → (B → K) → (B → List R → Type 0) → RowMap K R → Type 0
+  Remembers {B} key are m = (by : B) → IfSome (rows_at m (key by)) (are by)

@@ -1,0 +1,48 @@
+//! A list of rows with one row more or fewer.
+
+ghost use Rattle.std.specs.Prelude.{◌≡◌, ◌+◌, ◌<◌, ◌^◌, true, false, OnOk, is_err};
+ghost use Rattle.std.specs.Option.{option_map, unwrap_or};
+ghost use Rattle.rows_in_memory.specs.KnownRows.{list_weight, with_put, without_row};
+
+use crate::keyed::KeyedRow;
+use std::alloc::AllocError;
+
+/// Without the row that has the key of this one.
+pub fn drop_from<R: KeyedRow>(rows: &mut Vec<R>, row: &R)
+    ensures { rows.new.items ≡ without_row R.same_row row.now rows.old.items }
+{
+    rows.retain(|other| !other.is_same(row));
+}
+
+/// With the row in place of the one that has its key.
+pub fn put_in<R: KeyedRow>(rows: &mut Vec<R>, row: &R) -> Result<(), AllocError>
+    ensures { OnOk result (rows.new.items ≡ with_put R.same_row row.now rows.old.items) }
+{
+    drop_from::<R>(rows, row);
+    rows.push(*row)?;
+    Ok(())
+}
+
+/// What a list weighs: 1, and each of its rows 1 more.
+pub fn weight_of<R>(rows: &Vec<R>) -> u64
+    ensures { result ≡ list_weight rows.now }
+{
+    rows.len() as u64 + 1
+}
+
+/// What a list weighs, if there is one.
+pub fn weight_if<R>(rows: &Option<Vec<R>>) -> u64
+    ensures { result ≡ unwrap_or (option_map list_weight rows.now) 0 }
+{
+    match rows {
+        Some(rows) => weight_of(rows),
+        None => 0,
+    }
+}
+
+/// Whether a list was made, and what it weighs with others is no more than a number can be.
+pub fn can_weigh(made: &Result<(), AllocError>, others: u64, more: u64) -> bool
+    ensures { result ≡ true → (is_err made.now ≡ false) × (others + more < 2 ^ 64) }
+{
+    made.is_ok() && others.checked_add(more).is_some()
+}

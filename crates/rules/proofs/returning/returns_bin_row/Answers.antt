@@ -1,0 +1,8 @@
+use Rattle.std.proofs.Common.{rules}
+use Rattle.rules.proofs.returning.returns_bin_row.Goals as goal
+
+pub returns-requires : goal.returns-requires
+returns-requires c = search rules
+
+pub returns : goal.returns
+returns c = search rules

@@ -1,0 +1,19 @@
+mod Words
+pub mod Meta
+pub mod Items
+pub mod Least
+pub mod Bins
+pub mod Lots
+pub mod Recalls
+pub mod Stock
+pub mod Dropping
+pub mod Orders
+pub mod Lines
+pub mod Staged
+pub mod Reserved
+pub mod Urgents
+pub mod ByKey
+pub mod Shipments
+pub mod Shiplines
+pub mod Cards
+pub mod Repeats

@@ -1,0 +1,90 @@
+//! The table `lines`.
+
+use crate::order_texts::{ADD_LINE, CHANGE_LINE, LINE_OF, LINES_OF_ORDER};
+use commands::LineRow;
+use keyed_rows::mapped::Mapped;
+use keyed_rows::reading::SoughtBy;
+use keyed_rows::table::Changing;
+use table_words::column::{Count, Number, QTY};
+use values::{Gtin, Name};
+
+/// The table.
+pub struct Lines;
+
+impl Mapped for Lines {
+    ghost use Rattle.table_words.specs.Typed.{line_mapping};
+    ghost use Rattle.tables.specs.Lines.{lines, line_mapped, lines_laws};
+
+    type Row = LineRow;
+
+    type Key = (Name, Gtin);
+
+    type Parts = (Name, (Gtin, (Count<QTY>, Number<QTY>)));
+
+    ghost mapping = { line_mapping };
+
+    ghost described = { lines };
+
+    ghost mapped = { line_mapped };
+
+    ghost mapped_laws = { lines_laws };
+
+    fn parts(row: &LineRow) -> Self::Parts {
+        let ordered = Count {
+            number: row.ordered,
+        };
+        let shipped = Number {
+            number: row.shipped,
+        };
+        (row.order, (row.gtin, (ordered, shipped)))
+    }
+
+    fn of((order, (gtin, (ordered, shipped))): Self::Parts) -> LineRow {
+        LineRow {
+            order,
+            gtin,
+            ordered: ordered.number,
+            shipped: shipped.number,
+        }
+    }
+
+    fn add_text() -> &'static str {
+        ADD_LINE
+    }
+}
+
+impl Changing for Lines {
+    ghost use Rattle.tables.specs.Lines.{change_line, change_line_laws};
+
+    ghost change = { change_line };
+
+    ghost change_laws = { change_line_laws };
+
+    fn change_text() -> &'static str {
+        CHANGE_LINE
+    }
+}
+
+impl SoughtBy<Name> for Lines {
+    ghost use Rattle.tables.specs.Lines.{lines_of_order, lines_of_order_laws};
+
+    ghost asks = { lines_of_order };
+
+    ghost asked = { lines_of_order_laws };
+
+    fn asking_text() -> &'static str {
+        LINES_OF_ORDER
+    }
+}
+
+impl SoughtBy<(Name, Gtin)> for Lines {
+    ghost use Rattle.tables.specs.Lines.{line_of, line_of_laws};
+
+    ghost asks = { line_of };
+
+    ghost asked = { line_of_laws };
+
+    fn asking_text() -> &'static str {
+        LINE_OF
+    }
+}

@@ -1,0 +1,6 @@
+use Rattle.std.proofs.Common.{◌≡◌, take}
+use Rattle.commands.specs.Lists.{total}
+use Rattle.texts.proofs.totals.shipped_units.Given as goal
+
+abbrev pub invariant-loop-shipment : goal.invariant-loop-shipment
+invariant-loop-shipment l = l.units ≡ total (λ s. s.qty) (take l.shipment-index l.shipments)

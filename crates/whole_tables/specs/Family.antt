@@ -1,0 +1,71 @@
+-- The tables of the books as one family: which table, and what it is.
+use Rattle.std.specs.Prelude.{◌≡◌, Option}
+use Rattle.std.proofs.Common.{refl}
+use Rattle.commands.specs.Tables.{Tables}
+use Rattle.keyed_rows.specs.Described.{Described, IsLawful}
+use Rattle.tables.specs.Meta.{meta, meta_laws}
+use Rattle.tables.specs.Items.{items, items_laws}
+use Rattle.tables.specs.Least.{least, least_laws}
+use Rattle.tables.specs.Bins.{bins, bins_laws}
+use Rattle.tables.specs.Lots.{lots, lots_laws}
+use Rattle.tables.specs.Recalls.{recalls, recalls_laws}
+use Rattle.tables.specs.Stock.{stock, stock_laws}
+use Rattle.tables.specs.Orders.{orders, orders_laws}
+use Rattle.tables.specs.Urgents.{urgents, urgents_laws}
+use Rattle.tables.specs.Lines.{lines, lines_laws}
+use Rattle.tables.specs.Staged.{staged, staged_laws}
+use Rattle.tables.specs.Reserved.{reserved, reserved_laws}
+use Rattle.tables.specs.Shipments.{shipments, shipments_laws}
+use Rattle.tables.specs.Shiplines.{shiplines, shiplines_laws}
+use Rattle.tables.specs.Cards.{cards, cards_laws}
+use Rattle.tables.specs.Repeats.{repeats, repeats_laws}
+use Rattle.whole_tables.specs.declared.key.TableName.{TableName}
+use Rattle.whole_tables.specs.declared.key.TableName.TheVariants.{Meta, Items, Least, Bins, Lots, Recalls, Stock, Orders, Urgents, Lines, Staged, Reserved, Shipments, Shiplines, Cards, Repeats}
+
+-- a table: its rows, its keys, what it is, and what holds of it. What is written to it is there, and of two look-ups that
+-- are written the last one stands.
+pub record Member : Type 1 where
+  pub X : Type 0
+  pub K : Type 0
+  pub is : Described X K
+  pub laws : IsLawful is
+  pub there : (f : K → Option X) (t : Tables) → is.look (is.set f t) ≡ f
+  pub last : (f g : K → Option X) (t : Tables) → is.set f (is.set g t) ≡ is.set f t
+
+abbrev pub member : {X K : Type 0} (d : Described X K) → IsLawful d → ((f : K → Option X) (t : Tables) → d.look (d.set f t) ≡ f)
+    → ((f g : K → Option X) (t : Tables) → d.set f (d.set g t) ≡ d.set f t) → Member
+member {X} {K} d laws there last = record { X = X; K = K; is = d; laws = laws; there = there; last = last }
+
+abbrev pub family : TableName → Member
+family Meta = member meta meta_laws (λ f t. refl) (λ f g t. refl)
+family Items = member items items_laws (λ f t. refl) (λ f g t. refl)
+family Least = member least least_laws (λ f t. refl) (λ f g t. refl)
+family Bins = member bins bins_laws (λ f t. refl) (λ f g t. refl)
+family Lots = member lots lots_laws (λ f t. refl) (λ f g t. refl)
+family Recalls = member recalls recalls_laws (λ f t. refl) (λ f g t. refl)
+family Stock = member stock stock_laws (λ f t. refl) (λ f g t. refl)
+family Orders = member orders orders_laws (λ f t. refl) (λ f g t. refl)
+family Urgents = member urgents urgents_laws (λ f t. refl) (λ f g t. refl)
+family Lines = member lines lines_laws (λ f t. refl) (λ f g t. refl)
+family Staged = member staged staged_laws (λ f t. refl) (λ f g t. refl)
+family Reserved = member reserved reserved_laws (λ f t. refl) (λ f g t. refl)
+family Shipments = member shipments shipments_laws (λ f t. refl) (λ f g t. refl)
+family Shiplines = member shiplines shiplines_laws (λ f t. refl) (λ f g t. refl)
+family Cards = member cards cards_laws (λ f t. refl) (λ f g t. refl)
+family Repeats = member repeats repeats_laws (λ f t. refl) (λ f g t. refl)
+
+abbrev pub Row : TableName → Type 0
+Row n = (family n).X
+
+abbrev pub Key : TableName → Type 0
+Key n = (family n).K
+
+abbrev pub described : (n : TableName) → Described (Row n) (Key n)
+described n = (family n).is
+
+-- the rows of a table by key, and the tables with those of one table replaced
+abbrev pub look : (n : TableName) → Tables → Key n → Option (Row n)
+look n = (described n).look
+
+abbrev pub over : (n : TableName) → (Key n → Option (Row n)) → Tables → Tables
+over n = (described n).set
