@@ -83,6 +83,15 @@ def dripping_on():
     return got
 
 
+def waiting():
+    """Sends its request, does not hang up, and waits for the end of its answer: that comes at once."""
+    start = time.monotonic()
+    with connected() as peer:
+        peer.sendall(STOCK)
+        got, took = answer_of(peer), time.monotonic() - start
+    return got if took < 5 else "after %.1f seconds: %r" % (took, got)
+
+
 def gone(size):
     """Sends a front and closes at once, without a look at the answer."""
     with connected() as peer:
@@ -129,6 +138,7 @@ def sound():
 # What each client is called, what it does, and what it must be told.
 hostile = [
     ("one byte at a time", slow, SHOWN),
+    ("a request, and no end", waiting, SHOWN),
     ("nothing at all", silent, None),
     ("nothing, and an end", lambda: asks(b""), refused(400, "W01")),
     ("all but the last byte", stuck, None),

@@ -1,8 +1,9 @@
 """Each name in the documents is one of the tree: README.md, docs/*.md and the README.md of the crates and of the scenarios are
 read, and of each name in backquotes it is asked whether there is such a crate, file, folder, route, line of the program, table,
 column, scenario or code, or such a function, type, variant, field, module, clause or definition of the crates. `a::b` is asked
-for within one crate. Each page that a link leads to is there, and each heading that is named behind it. And the picture in
-README.md has every crate of crates.txt, each before those that it calls.
+for within one crate, and so is a file of `src/`, `specs/` or `proofs/` in a row of a table that begins with the names of crates.
+Each page that a link leads to is there, and each heading that is named behind it. And the picture in README.md has every crate of
+crates.txt, each before those that it calls.
 
 What is not found is printed with its file and line. EXCEPTIONS has the words that are of others: of the shell, of HTTP, of SQL,
 of the kit, of the page's devices. Needs python3 alone, and takes a second or two. Exit status 0 only if nothing was printed.
@@ -195,15 +196,32 @@ def unknown_in(page, number, line):
             yield f"{page}:{number}: {path} {heading}"
 
 
+def crates_of(line, before):
+    """The crates that a row of a table begins with; where its first field is empty, those of the row before it."""
+    if not line.startswith("|"):
+        return []
+    first = line.split("|")[1]
+    return [name for name in re.findall(r"`(\w+)`", first) if name in CRATES] if first.strip() else before
+
+
+def elsewhere(page, number, line, crates):
+    """Files that a row names within a part of a crate, and that none of its crates has."""
+    for token in re.findall(r"`((?:src|specs|proofs)/[\w./-]+)`", line) if crates else []:
+        if not any(path == f"crates/{crate}/{token}" or path.startswith(f"crates/{crate}/{token}/") for crate in crates for path in FILES):
+            yield f"{page}:{number}: `{token}` is no file of {' or '.join(crates)}"
+
+
 def unknown():
     """What the pages name or link to, and is not there. Blocks of text are passed over."""
     pages = ["README.md", "crates/README.md", "crates/scenarios/data/README.md"] + sorted(path for path in FILES if re.fullmatch(r"docs/\w+\.md", path))
     for page in pages:
-        is_block = False
+        is_block, crates = False, []
         for number, line in enumerate(text_of(page).splitlines(), 1):
             is_block ^= line.startswith("```")
+            crates = crates_of(line, crates)
             if not is_block:
                 yield from unknown_in(page, number, line)
+                yield from elsewhere(page, number, line, crates)
 
 
 def picture():

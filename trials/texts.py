@@ -1,5 +1,5 @@
-"""Long texts by the lines of lotd: a stock card of 100,000 lines and a recall notice of 10,000 shipments, byte for byte as
-the format says, in the memory that the open books take anyway; and both into an output that is full. The rows are set by
+"""Long texts by the lines of lotd: a stock card of 100,000 lines, in the memory that the open books take anyway, and a recall
+notice of 10,000 shipments, byte for byte as the format says; and both into an output that is full. The rows are set by
 python's sqlite3. Needs the Rattle kit, and takes half a minute.
 Exit status 0 only if every byte, every exit status and every peak of memory was as it must be.
 """
@@ -16,6 +16,8 @@ OATS, OTHER = "09506000134352", "04012345000016"
 DAY, DAY_TEXT = 20577, "2026-05-04"
 # What two runs may differ by, in KiB. The 100,000 lines are 8 MB as text.
 SLACK = 1_024
+# What the rows of a notice of 10,000 shipments and 1,000 bins may take beside, in KiB.
+ROWS = 8_192
 
 
 def fail(what, expected, got):
@@ -162,12 +164,12 @@ long_db, long_card, _ = checked("long", (100_000, 10, 100))
 _, _, long_notice = checked("shipped", (10_100, 1_000, 10_000))
 if long_card > max(short_card, 0) + SLACK:
     fail("the memory of a card", "at most %d KiB more" % (max(short_card, 0) + SLACK), long_card)
-if long_notice > max(short_notice, 0) + SLACK:
-    fail("the memory of a notice", "at most %d KiB more" % (max(short_notice, 0) + SLACK), long_notice)
+if long_notice > max(short_notice, 0) + ROWS:
+    fail("the memory of a notice", "at most %d KiB more" % (max(short_notice, 0) + ROWS), long_notice)
 
 with open("/dev/full", "wb") as full:
     for line in ("card", "notice"):
         for db in (short_db, long_db):
             is_refused("a %s into an output that is full" % line, "io", line, "--db", db, OATS, "L1", out=full)
 print("  a card and a notice into an output that is full")
-print("texts: every byte was as it must be, and no text took more memory than the open books")
+print("texts: every byte was as it must be, and no text took more memory than it may")

@@ -1,3 +1,0 @@
-pub mod Walk
-pub mod Ends
-pub mod Bearing

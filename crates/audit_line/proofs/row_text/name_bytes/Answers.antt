@@ -1,5 +1,0 @@
-use Rattle.audit_line.proofs.Rows.{name_length}
-use Rattle.audit_line.proofs.row_text.name_bytes.Goals as goal
-
-pub returns-clause-size : goal.returns-clause-size
-returns-clause-size c = name_length c.as_bytes.result.now c.as_bytes.ensures.rule

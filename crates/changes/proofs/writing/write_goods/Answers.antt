@@ -1,7 +1,0 @@
-use Rattle.sqlite.specs.Held.{state}
-use Rattle.keyed_rows.proofs.Writing.{writes_then}
-use Rattle.changes.proofs.writing.write_goods.Goals as goal
-
-pub returns-clause-writes : goal.returns-clause-writes
-returns-clause-writes g c =
-    writes_then _ _ (state g.S.Store c.args.tx.now.conn.now) (state g.S.Store c.write_names.new.tx.conn.now) (state g.S.Store c.write_lots.new.tx.conn.now) tt c.write_lots.result c.in_ok-write_names.ensures.writes c.write_lots.ensures.writes

@@ -1,8 +1,0 @@
-use Rattle.std.proofs.Common.{Ok}
-use Rattle.sqlite.specs.Held.{state}
-use Rattle.keyed_rows.proofs.Writing.{writes_then}
-use Rattle.changes.proofs.writing.write_shares.Goals as goal
-
-pub returns-clause-writes : goal.returns-clause-writes
-returns-clause-writes g c =
-    writes_then _ _ (state g.S.Store c.args.tx.now.conn.now) (state g.S.Store c.write_rows.new.tx.conn.now) (state g.S.Store c.write_reserved.new.tx.conn.now) tt c.write_reserved.result (writes_then _ _ (state g.S.Store c.args.tx.now.conn.now) (state g.S.Store c.write_stage.new.tx.conn.now) (state g.S.Store c.write_rows.new.tx.conn.now) tt (Ok tt) c.in_ok-write_stage.ensures.writes c.in_ok-write_rows.ensures.writes) c.write_reserved.ensures.writes

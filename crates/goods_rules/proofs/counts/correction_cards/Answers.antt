@@ -1,5 +1,0 @@
-use Rattle.std.proofs.Common.{rules}
-use Rattle.goods_rules.proofs.counts.correction_cards.Goals as goal
-
-pub returns : goal.returns
-returns c = search rules

@@ -1,5 +1,0 @@
-use Rattle.std.proofs.Common.{rules}
-use Rattle.goods_rules.proofs.goods.judge_receive.Goals as goal
-
-pub returns : goal.returns
-returns c = search rules

@@ -1,4 +1,0 @@
-use Rattle.goods_rules.proofs.goods.units_on_stages.Goals as goal
-
-pub returns : goal.returns
-returns c = c.units_with.ensures

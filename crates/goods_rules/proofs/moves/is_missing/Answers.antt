@@ -1,5 +1,0 @@
-use Rattle.std.proofs.Common.{rules}
-use Rattle.goods_rules.proofs.moves.is_missing.Goals as goal
-
-pub returns : goal.returns
-returns c = search rules

@@ -1,5 +1,0 @@
-use Rattle.std.proofs.Common.{rules}
-use Rattle.goods_rules.proofs.setup.judge_item.Goals as goal
-
-pub returns : goal.returns
-returns c = search rules

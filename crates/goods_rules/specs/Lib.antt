@@ -1,4 +1,0 @@
-pub mod DecidedCount
-pub mod DecidedMove
-pub mod DecidedReceive
-pub mod DecidedSetup

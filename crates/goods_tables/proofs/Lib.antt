@@ -1,3 +1,0 @@
-pub mod MetaLemmas
-pub mod BinsByName
-pub mod RaiseLemmas

@@ -1,2 +1,0 @@
-pub mod CardsByAct
-pub mod CardsAfter

@@ -1,6 +1,0 @@
-mod OwnDays
-mod Opened
-mod Kept
-mod Served
-mod Imported
-pub mod Losing

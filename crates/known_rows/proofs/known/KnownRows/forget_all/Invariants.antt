@@ -1,6 +1,0 @@
-use Rattle.std.proofs.Common.{drop}
-use Rattle.known_rows.proofs.Maps.{Going}
-use Rattle.known_rows.proofs.known.KnownRows.forget_all.Given as goal
-
-abbrev pub invariant-loop-row : goal.invariant-loop-row
-invariant-loop-row g l = Going g.K.Ord.cmp (λ r. g.K.KeyOf.key (g.R.Has.of_row r)) l.rows (drop l.row-index l.rows) l.initial.self.rows l.self.rows

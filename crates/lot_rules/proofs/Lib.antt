@@ -1,2 +1,0 @@
-pub mod GivingOut
-pub mod PlanKept

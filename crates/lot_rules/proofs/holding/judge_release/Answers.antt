@@ -1,5 +1,0 @@
-use Rattle.std.proofs.Common.{rules}
-use Rattle.lot_rules.proofs.holding.judge_release.Goals as goal
-
-pub returns : goal.returns
-returns c = search rules

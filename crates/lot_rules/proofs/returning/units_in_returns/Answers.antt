@@ -1,8 +1,0 @@
-use Rattle.std.proofs.Common.{rules}
-use Rattle.lot_rules.proofs.returning.units_in_returns.Goals as goal
-
-pub returns-requires : goal.returns-requires
-returns-requires c = search rules
-
-pub returns : goal.returns
-returns c = search rules

@@ -1,3 +1,0 @@
-pub mod GoingIn
-pub mod ManyAdded
-pub mod Parts

@@ -1,7 +1,0 @@
-use Rattle.std.proofs.Common.{◌≡◌, drop}
-use Rattle.std.specs.List.{list_all}
-use Rattle.many_rows.proofs.adding.all_fit.Given as goal
-
--- all rows do, if those that are left do
-abbrev pub invariant-loop-row : goal.invariant-loop-row
-invariant-loop-row g l = list_all g.T.Table.fits l.rows ≡ list_all g.T.Table.fits (drop l.row-index l.rows)

@@ -1,5 +1,0 @@
-use Rattle.std.proofs.Common.{◌≡◌, map, take}
-use Rattle.many_rows.proofs.adding.columns_of_all.Given as goal
-
-abbrev pub invariant-loop-row : goal.invariant-loop-row
-invariant-loop-row g l = l.all.items ≡ map g.T.AddedMany.columns_of (take l.row-index l.rows)

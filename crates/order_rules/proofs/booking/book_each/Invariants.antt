@@ -1,6 +1,0 @@
-use Rattle.order_rules.specs.Booked.{line_put, line_short}
-use Rattle.row_rules.proofs.Gathering.{IsBooked}
-use Rattle.order_rules.proofs.booking.book_each.Given as goal
-
-abbrev pub invariant-loop-line : goal.invariant-loop-line
-invariant-loop-line l = IsBooked (line_put l.slice l.order) (line_short l.slice) l.lines l.line-index l.put.items l.short

@@ -1,5 +1,0 @@
-use Rattle.row_rules.proofs.Gathering.{IsSoughtTwice}
-use Rattle.order_rules.proofs.customer_orders.names_item_twice.Given as goal
-
-abbrev pub invariant-loop-index : goal.invariant-loop-index
-invariant-loop-index l = IsSoughtTwice l.lines l.index

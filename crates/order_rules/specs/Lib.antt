@@ -1,6 +1,0 @@
-pub mod Booked
-pub mod DecidedCancel
-pub mod DecidedOrder
-pub mod DecidedPick
-pub mod DecidedShip
-pub mod DecidedUrgent

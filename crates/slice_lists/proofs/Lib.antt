@@ -1,4 +1,0 @@
-pub mod KeysOnce
-pub mod KeysSeen
-pub mod EndingGiven
-pub mod NamesOnce

@@ -1,7 +1,0 @@
-use Rattle.std.proofs.Common.{◌∙◌}
-use Rattle.commands.specs.declared.rows.StockRow.{StockRow}
-use Rattle.slice_lists.proofs.NamesOnce.{names_once}
-use Rattle.slice_lists.proofs.command_names.with_bins.Goals as goal
-
-pub returns : goal.returns
-returns c keyed = c.into_values.ensures ∙ c.in_ok-add_all.ensures.added keyed ∙ names_once (λ (r : StockRow). r.bin) c.args.stock.now c.args.list.values.items
