@@ -1,5 +1,5 @@
 -- What was read of a file.
-use Rattle.acts_files.proofs.Words.{◌≡◌, ℕ, ◌+◌, ◌-◌, ◌<◌, ◌≤◌, ◌≢◌, List, [], ◌∷◌, ◌++◌, get_or, append-nil, append_assoc, length, length-append, length-drop, take, take-append-drop, drop, inl, inr, sym, ap, subst, ◌∙◌, arith, min, take-append_seam, get_or-append_seam, cases_lt, drop_all, ext_get_or, get_or_append_left, take-append-le, All-get_or, at_from_reads, at_reads, front_reads, Holds, Bears, IsLine, Begins, IsPartOf}
+use Rattle.acts_files.proofs.Words.{◌≡◌, ℕ, ◌+◌, ◌-◌, ◌<◌, ◌≤◌, ◌≢◌, List, [], ◌∷◌, ◌++◌, get_or, append-nil, append_assoc, length, length-append, length-drop, take, take-append-drop, drop, inl, inr, sym, ap, subst, ◌∙◌, arith, min, take-append_seam, get_or-append_seam, cases_lt, drop_all, ext_get_or, take-append-le, at_from_reads, at_reads, front_reads, Holds, Bears, IsLine, Begins, IsPartOf}
 
 -- bytes that a file has at a place are those behind it
 pub stand : (c bytes : List ℕ) (at : ℕ) → Holds c at bytes → drop at c ≡ bytes ++ drop (at + length bytes) c
@@ -68,18 +68,6 @@ module _ (bytes line more : List ℕ) (is : bytes ≡ line ++ more) (whole : IsL
 
   feed : get_or bytes (length whole.body) 0 ≡ 10
   feed = front_reads 0 bytes line more is (length whole.body) (omega (arith, long)) ∙ ap (λ l. get_or l (length whole.body) 0) whole.is ∙ get_or-append_seam whole.body 10 [] 0
-
-  pub ends_at : (i : ℕ) → ((k : ℕ) → k < i → get_or bytes k 0 ≢ 10) → get_or bytes i 0 ≡ 10 → i + 1 ≡ length line
-  ends_at i none ten = elim (cases_lt (length whole.body) i) [
-    | inl before ↦ absurd (none (length whole.body) before feed)
-    | inr from ↦ elim (cases_lt i (length whole.body)) [
-      | inl within ↦
-          let here : get_or bytes i 0 ≡ get_or whole.body i 0 =
-          front_reads 0 bytes line more is i (omega (arith, within, long)) ∙ ap (λ l. get_or l i 0) whole.is ∙ get_or_append_left whole.body (10 ∷ []) 0 i within in
-          absurd (All-get_or (λ b. b ≢ 10) whole.body i 0 within whole.one (sym here ∙ ten))
-      | inr at ↦ omega (arith, from, at, long)
-    ]
-  ]
 
   pub has_end : ((k : ℕ) → k < length bytes → get_or bytes k 0 ≢ 10) → ⊥
   has_end none = let n = ap length is ∙ length-append line more in none (length whole.body) (omega (arith, n, long)) feed

@@ -1,5 +1,5 @@
 -- A file of which nothing was changed, and one that keeps its texts.
-use Rattle.acts_files.proofs.Words.{◌≡◌, ℕ, ◌+◌, ◌≤◌, List, [], ◌++◌, append-nil, length, length-append, append_assoc, drop, refl, sym, ap, ◌∙◌, arith, ℤ, front_rest, Holds, Ghosts, Act, today, history_text, newer_text, HasText, BeginsWith, HasAtMost, IsSameFile, LosesNoLine, IsCleanFile, KeepsActs, HasPassed, HoldsText, KeepsTexts, rest_of, IsMeasured, KeepsLines, Begins, HasNoLine, ActsFile}
+use Rattle.acts_files.proofs.Words.{◌≡◌, ℕ, ◌+◌, ◌≤◌, List, [], ◌++◌, append-nil, length, length-append, append_assoc, drop, refl, sym, ap, ◌∙◌, arith, ℤ, front_rest, Holds, Ghosts, Act, today, history_text, newer_text, HasText, BeginsWith, HasAtMost, IsSameFile, LosesNoLine, IsCleanFile, KeepsActs, HasPassed, KeepsTexts, rest_of, IsMeasured, KeepsLines, Begins, HasNoLine, ActsFile}
 use Rattle.acts_files.proofs.Lines.{lines_below}
 use Rattle.acts_files.proofs.Read.{stand, stand_back}
 use Rattle.acts_files.proofs.TextParts.{goes_on}
@@ -73,9 +73,6 @@ module _ {D : Type 0} (g : Ghosts D) where
     -- whatever a stop leaves of it is their text
     pub few_of : (acts : List Act) (file : ActsFile D) (most : ℕ) → KeepsActs g begun acts file → IsCleanFile g file → HasAtMost g (history_text begun acts) most file.disk
     few_of acts file most keeps clean = few_text (history_text begun acts) file.len most file.disk (keeps.text clean)
-
-    pub begins_of : (acts : List Act) (file : ActsFile D) → KeepsActs g begun acts file → IsCleanFile g file → HoldsText g file (history_text begun acts)
-    begins_of acts file keeps clean = let t = keeps.text clean in (λ c may. ([], t.left c may ∙ sym (append-nil (history_text begun acts))), omega (arith, t.long))
 
     -- the lines of some acts more were passed
     pub more_passed : (next older : List Act) (now after : ActsFile D) (lines : List ℕ) → HasPassed g begun older now → IsSameFile g now.disk after.disk → lines ≡ newer_text begun next older → after.len ≡ now.len + length lines

@@ -6,7 +6,7 @@ pub use Rattle.std.proofs.Common.{◌≡◌, ℕ, ◌+◌, ◌≤◌, List, ◌+
 pub use Rattle.std.proofs.Math.Seq.{get_or-append_seam, take-append_seam, drop-append_seam}
 pub use Rattle.std.proofs.lemmas.Bool.{cases_Bool, cases_lt}
 pub use Rattle.std.proofs.lemmas.Bool.Decides.{nat_tests, Decides-eqb}
-pub use Rattle.std.proofs.lemmas.List.{drop_all, get_or-drop, append_cancel_left, ext_get_or, get_or_append_left, take-append-le}
+pub use Rattle.std.proofs.lemmas.List.{drop_all, get_or-drop, append_cancel_left, ext_get_or, take-append-le}
 pub use Rattle.std.proofs.lemmas.List.Elements.{All-get_or, All-nil}
 pub use Rattle.std.proofs.lemmas.List.Prefix.{front_from_reads, front_reads, at_from_reads, front_rest, at_reads}
 pub use Rattle.std.proofs.lemmas.Result.{err_from_is_err_and, on_ok_weaker, on_err_weaker, IfErr-weaker, IfOk-weaker}
@@ -26,7 +26,6 @@ unfoldable pub use Rattle.commands.specs.Spelling.{spelling}
 pub use Rattle.commands.specs.declared.command.Command.{Command}
 pub use Rattle.commands.specs.declared.key.Key.{Key}
 pub use Rattle.commands.specs.declared.key.Key.TheVariants.{Plain, Line}
-pub use Rattle.commands.specs.declared.refusal.Refusal.{Refusal}
 pub use Rattle.commands.specs.declared.rows.RepeatRow.{RepeatRow}
 pub use Rattle.commands.proofs.Fields.{AllPrintable}
 pub use Rattle.commands.proofs.Joining.{lacks_failing, and_both, all-append}
@@ -38,14 +37,10 @@ pub use Rattle.machine.specs.Once.{IsHistory}
 pub use Rattle.machine.specs.Standing.{today}
 pub use Rattle.machine.specs.Tables.{repeat_row}
 pub use Rattle.machine.proofs.histories.Accepted.{room_for_acts}
-pub use Rattle.queries.specs.ShownActs.{acts_shown}
 pub use Rattle.store.specs.Books.{HoldsBooks, IsClean, AreAsBefore}
 pub use Rattle.store.specs.Connected.{Connected}
-pub use Rattle.store.specs.Handing.{HandsRecords, NoBooks}
-pub use Rattle.store.specs.Queries.{IsShown}
+pub use Rattle.store.specs.Handing.{HandsRecords}
 pub use Rattle.store.specs.declared.each_fault.EachFault.{EachFault}
-pub use Rattle.store.specs.declared.fault.Fault.{Fault}
-pub use Rattle.store.specs.declared.fault.Fault.TheVariants.{Refused}
 pub use Rattle.store.proofs.AsBefore.{as_before_itself, as_before_then}
 pub use Rattle.histories.specs.Lines.{AddsLine}
 pub use Rattle.histories.specs.Newer.{newer_text, act_line}
@@ -57,7 +52,7 @@ pub use Rattle.histories.proofs.Above.{went_above}
 pub use Rattle.histories.proofs.Acts.{earlier}
 pub use Rattle.acts_files.specs.Faults.{IsNoMisfit, IsOfBooks, IsOfFile}
 pub use Rattle.acts_files.specs.Kept.{HasText, HasAtMost, IsSameFile, IsAtMost, AreLines, ShowsText, BeginsWith, LosesNoLine}
-pub use Rattle.acts_files.specs.KeptActs.{IsCleanFile, KeepsActs, KeepsNext, LacksNext, HasPassed, HasAdded, HasOldest, HoldsText, KeepsTexts, NoHistory, TextGoesOn}
+pub use Rattle.acts_files.specs.KeptActs.{IsCleanFile, KeepsActs, KeepsNext, LacksNext, HasPassed, HasAdded, HasOldest, KeepsTexts, NoHistory, TextGoesOn}
 pub use Rattle.acts_files.specs.Newer.{AreNextLines, in_memory, AddsOne, StopsFull, IsTaken, AreLinesOf, AreNext}
 pub use Rattle.acts_files.specs.Opened.{rest_of, IsMeasured, LeavesOldest, PassesMore, StopsAt, EndsAt, HasWalked, Misfits, IsPut, IsOther, IsNotPutBy, IsOpened, IsRefused, IsNotOpenedBy, IsNotOpened, IsOwn, IsTail, KeepsLines, IsNotPut}
 pub use Rattle.acts_files.specs.Torn.{HasNoLine, Begins, IsLeftOf, IsPartOf}

@@ -1,16 +1,18 @@
 //! Books in memory, beside which the file of the acts is opened.
 
 use crate::acting::acts_of;
+use crate::counting::{Counting, Counts};
 use crate::disk::{ALWAYS, Held, Stopping, disk_of};
 use crate::fails::each_call_fails;
 use crate::filed::{are_filed, day_is_given, is_printed};
 use crate::memory::is_kept;
 use crate::opened::{are_opened, bytes_are_changed, is_cut_at_each_byte, tails_are_long};
+use crate::statements::are_counted;
 use crate::stops::{Start, stops};
 use crate::torn::{a_thousand_rows_are_kept, many_are_added, writes_are_torn};
 use acts_files::{ActsFault, NotOpened, open_beside};
 use label::{BusinessDay, Day};
-use sqlite::{Alter, Connection};
+use sqlite::{Alter, Connection, MemStore};
 use std::alloc::Global;
 use std::process::Abort;
 use store::Books;
@@ -42,6 +44,8 @@ pub(crate) enum Trial<'a> {
     Many,
     /// A goods-in file of a thousand rows.
     Thousand,
+    /// The statements of acts are counted.
+    Counted,
     /// There may be no memory.
     Memory(&'a HostRuntime),
 }
@@ -119,7 +123,13 @@ pub(crate) fn is_so<S: Alter>(
     is_of_day(rt, alloc, books, file, first_day(rt), expected);
 }
 
-fn tried<S: Alter + Drop>(rt: &impl Abort, alloc: Global, conn: Connection<S>, trial: Trial<'_>) {
+fn tried<S: Alter + Drop>(
+    rt: &impl Abort,
+    alloc: Global,
+    conn: Connection<S>,
+    counts: &Counts,
+    trial: Trial<'_>,
+) {
     let mut books = new_books(rt, alloc, conn);
     match trial {
         Trial::Opened(cases) => are_opened(rt, alloc, &mut books, cases),
@@ -134,6 +144,7 @@ fn tried<S: Alter + Drop>(rt: &impl Abort, alloc: Global, conn: Connection<S>, t
         Trial::Torn => writes_are_torn(rt, alloc, &mut books),
         Trial::Many => many_are_added(rt, alloc, &mut books),
         Trial::Thousand => a_thousand_rows_are_kept(rt, alloc, &mut books),
+        Trial::Counted => are_counted(rt, alloc, &mut books, counts),
         Trial::Memory(host) => is_kept(host, rt, &mut books),
     }
 }
@@ -141,6 +152,10 @@ fn tried<S: Alter + Drop>(rt: &impl Abort, alloc: Global, conn: Connection<S>, t
 /// Tries it over new books in memory.
 // The one function over the connection's own type: each takes long to check.
 pub(crate) fn in_memory(rt: &impl Abort, alloc: Global, trial: Trial<'_>) {
-    let conn = Connection::open_in_memory(alloc).expect(rt, "memory");
-    tried(rt, alloc, conn, trial);
+    let counts = Counts::new();
+    let store = MemStore::new(alloc, &[]).ok().expect(rt, "memory");
+    match Connection::over(alloc, Counting::new(store, &counts)) {
+        Ok(conn) => tried(rt, alloc, conn, &counts, trial),
+        Err(_) => panic!(rt; "no connection opens"),
+    }
 }

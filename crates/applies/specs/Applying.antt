@@ -1,9 +1,6 @@
 -- What applying a text comes to.
 use Rattle.std.specs.Prelude.{ℕ, ℤ, List, Result}
-use Rattle.sqlite_trees.specs.declared.store.Store.{Ghosts}
-use Rattle.sqlite_trees.specs.Tree.{Trees}
-use Rattle.machine.specs.Acts.{Act}
-use Rattle.store.specs.Connected.{Connected}
+use Rattle.applies.specs.Words.{Ghosts, Trees, Act, Connected}
 use Rattle.applies.specs.Begun.{BegunOn}
 use Rattle.applies.specs.Going.{GoesOn, Leaves}
 use Rattle.applies.specs.declared.applied.Applied.{Applied}

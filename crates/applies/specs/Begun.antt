@@ -1,11 +1,8 @@
 -- The day on which the acts of books began, as far as their tables tell it.
 use Rattle.std.specs.Prelude.{◌≡◌, ℕ, ℤ, ◌&&◌, if◌then◌else◌, List, ◌∷◌, ◌++◌, Option, Some, None, int_le}
 use Rattle.label.specs.Days.{is_business_day, parsed_day}
-use Rattle.machine.specs.Acts.{Act}
-use Rattle.machine.specs.Once.{IsHistory}
-use Rattle.machine.specs.Standing.{today}
+use Rattle.applies.specs.Words.{Act, IsHistory, today, act_line}
 use Rattle.machine.specs.Tables.{tables_of}
-use Rattle.histories.specs.Newer.{act_line}
 use Rattle.applies.specs.Fields.{cut_at_tab, behind_tab}
 
 -- Begun on this day the acts are a history too, and have the same tables. Where they open a day before any receives, that is so

@@ -1,11 +1,8 @@
 -- The fields of a line.
 use Rattle.std.specs.Prelude.{◌≡◌, ◌-◌, ◌<◌, ◌^◌, ℕ, ℤ, ◌==◌, if◌then◌else◌, List, [], ◌∷◌, length, map, take, Option, Some, None, option_map}
-use Rattle.commands.specs.Spelling.{key_text, spelling}
+use Rattle.applies.specs.Words.{key_text, spelling, Act, IsSoundRequest, history_line}
 use Rattle.commands.specs.declared.key.Key.{Key}
 use Rattle.commands.specs.declared.command.Command.{Command}
-use Rattle.machine.specs.Acts.{Act}
-use Rattle.machine.specs.Once.{IsSoundRequest}
-use Rattle.histories.specs.Text.{history_line}
 
 -- what stands before the first tab, and behind it
 abbrev pub cut_at_tab : List ℕ → Option (List ℕ × List ℕ)

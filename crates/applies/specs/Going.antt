@@ -1,19 +1,10 @@
 -- Books that go on by the lines of a text.
 use Rattle.std.specs.Prelude.{◌≡◌, ◌≢◌, ◌⊎◌, ◌+◌, ◌<◌, ℕ, ℤ, List, [], ◌∷◌, ◌++◌, length, Option, Some, Result, Ok, Err, IfSome, OnOk}
-use Rattle.sqlite_trees.specs.declared.store.Store.{Ghosts}
-use Rattle.sqlite_trees.specs.Tree.{Trees}
+use Rattle.applies.specs.Words.{Ghosts, Trees, Refusal, Act, next_number, IsHistory, IsSoundRequest, outcome, act_line, newer_text, IsPart, IsNumbered, IsPiece, cause, IsOpen, Connected, AreBooks, HoldsBooks, LeavesOnly}
 use Rattle.sqlite.specs.Held.{state}
-use Rattle.commands.specs.declared.refusal.Refusal.{Refusal}
-use Rattle.machine.specs.Acts.{Act, next_number}
-use Rattle.machine.specs.Once.{IsHistory, IsSoundRequest, outcome}
 use Rattle.histories.specs.Books.{AreInTurn}
-use Rattle.histories.specs.Newer.{act_line, newer_text}
-use Rattle.histories.specs.Reading.{IsPart, IsNumbered, IsPiece}
 use Rattle.histories.specs.declared.reading.ReadFault.{ReadFault}
 use Rattle.histories.specs.declared.reading.ReadFault.TheVariants as read
-use Rattle.replays.specs.Replaying.{cause, IsOpen}
-use Rattle.store.specs.Connected.{Connected}
-use Rattle.store.specs.Books.{AreBooks, HoldsBooks, LeavesOnly}
 use Rattle.applies.specs.declared.applied.Applied.{Applied}
 use Rattle.applies.specs.declared.applied.NotApplied.{NotApplied}
 use Rattle.applies.specs.declared.applied.NotApplied.TheVariants.{Differs, Lacks, Line, Refused, Input, Store, Foreign}

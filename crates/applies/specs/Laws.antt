@@ -1,10 +1,6 @@
 -- What applying a whole history to new books comes to.
 use Rattle.std.specs.Prelude.{ℤ, List, [], ◌++◌, Ok}
-use Rattle.sqlite_trees.specs.Tree.{Trees}
-use Rattle.machine.specs.Acts.{Act}
-use Rattle.machine.specs.Once.{IsHistory}
-use Rattle.histories.specs.Text.{history_text}
-use Rattle.store.specs.Books.{AreBooks}
+use Rattle.applies.specs.Words.{Trees, Act, IsHistory, history_text, AreBooks}
 use Rattle.applies.specs.Begun.{BegunOn}
 use Rattle.applies.specs.Going.{IsDone}
 use Rattle.applies.specs.declared.applied.Applied.{Applied}

@@ -1,3 +1,4 @@
+mod Words
 pub mod Begun
 pub mod Fields
 pub mod Going

@@ -1,21 +1,9 @@
 -- The lines of acts that come behind those of the books.
 use Rattle.std.specs.Prelude.{◌≡◌, ◌≢◌, ◌⊎◌, ◌+◌, ◌<◌, ℕ, ℤ, List, [], ◌∷◌, ◌++◌, length, Option, Some, Result, Ok, Err, OnOk}
 use Rattle.std.specs.Io.KnownBytes.{Consumes}
-use Rattle.sqlite_trees.specs.declared.store.Store.{Ghosts}
-use Rattle.sqlite_trees.specs.Tree.{Trees}
-use Rattle.commands.specs.Spelling.{key_text, spelling}
-use Rattle.commands.specs.declared.refusal.Refusal.{Refusal}
-use Rattle.machine.specs.Acts.{Act, next_number}
-use Rattle.machine.specs.Standing.{today, day_after_command}
-use Rattle.machine.specs.Once.{IsHistory, IsSoundRequest, outcome}
-use Rattle.histories.specs.Text.{history_line}
-use Rattle.histories.specs.Newer.{act_line, newer_text}
-use Rattle.histories.specs.Reading.{IsPart, IsLine, IsNumbered, IsPiece}
-use Rattle.replays.specs.Replaying.{cause}
+use Rattle.applies.specs.Words.{Ghosts, Trees, key_text, spelling, Refusal, Act, next_number, today, day_after_command, IsHistory, IsSoundRequest, outcome, history_line, act_line, newer_text, IsPart, IsLine, IsNumbered, IsPiece, cause, Connected, AreBooks, HoldsBooks}
 use Rattle.replays.specs.declared.fault.NotReplayed.{NotReplayed}
 use Rattle.replays.specs.declared.fault.NotReplayed.TheVariants as again
-use Rattle.store.specs.Connected.{Connected}
-use Rattle.store.specs.Books.{AreBooks, HoldsBooks}
 use Rattle.applies.specs.Going.{IsOfWant, AreCommitted}
 use Rattle.applies.specs.declared.applied.Applied.{Applied}
 use Rattle.applies.specs.declared.applied.NotApplied.{NotApplied}

@@ -1,10 +1,6 @@
 -- Texts of histories that go on with the acts of books: they are taken whole.
 use Rattle.std.specs.Prelude.{◌≡◌, ◌<◌, ℤ, ℕ, List, ◌++◌, length, Result, Ok, Err}
-use Rattle.sqlite_trees.specs.declared.store.Store.{Ghosts}
-use Rattle.machine.specs.Acts.{Act}
-use Rattle.machine.specs.Once.{IsHistory}
-use Rattle.store.specs.Connected.{Connected}
-use Rattle.store.specs.Books.{HoldsBooks}
+use Rattle.applies.specs.Words.{Ghosts, Act, IsHistory, Connected, HoldsBooks}
 use Rattle.applies.specs.Begun.{BegunOn}
 use Rattle.applies.specs.Going.{GoneOn, IsCounted, IsOfNoLine}
 use Rattle.applies.specs.declared.applied.Applied.{Applied}

@@ -1,6 +1,6 @@
 -- A table by its halves.
-use Rattle.audits.proofs.Words.{◌≡◌, ℤ, ◌++◌, Vec, Global, Bool, true, Option, None, Result, Ok, Err, IfErr, OnOk, ◌≢◌, find, refl, sym, ap, ap₂, subst, ◌∙◌, Database, State, IsUnchanged, all-filter, typed, IsReady, tables_in, Keeps, TableFault, Foreign, inside_itself, inside_then, Described, IsLawful, Half, Lower, Upper, FindsHalf, is_in, halves_typed, halves_read, RowKey, TableName, rule_called, SameTable, SameCalled, Unread, Untyped, Store, Both, IsUnread, AreSeen, Tells, SameHalf, TellsAlike}
-use Rattle.audits.proofs.Telling.{earlier, unchanged_then, tells_both}
+use Rattle.audits.proofs.Words.{◌≡◌, ℤ, ◌++◌, Vec, Global, Bool, true, None, Result, Ok, Err, IfErr, OnOk, find, refl, sym, ap, ap₂, subst, ◌∙◌, Database, State, IsUnchanged, all-filter, typed, IsReady, tables_in, Keeps, TableFault, Foreign, inside_itself, inside_then, Described, IsLawful, Half, Lower, Upper, FindsHalf, is_in, halves_typed, halves_read, TableName, rule_called, SameTable, SameCalled, Unread, Untyped, Store, Both, IsUnread, AreSeen, Tells, SameHalf, TellsAlike}
+use Rattle.audits.proofs.Telling.{earlier, unchanged_then}
 
 -- ---- one half
 
@@ -41,25 +41,10 @@ same_on : (o m n b c d : State) (r : Result Bool Unread) → IsUnchanged o m →
 same_on o m n b c d (Ok are) p q h = (unchanged_then o m n p h.0, unchanged_then b c d q h.1)
 same_on o m n b c d (Err e) p q h = tt
 
--- what was told stays told, whatever else is wanted
-pub not_alike : (P Q : Database → Database → Type 0) (o m b c : State) (r : Result Bool Unread) → r ≢ Ok true → TellsAlike P o m b c r → TellsAlike Q o m b c r
-not_alike P Q o m b c r other h = record { alike = λ seen e. absurd (other e); same = h.same; unread = h.unread; survives = h.survives; survives_too = h.survives_too }
-
-pub unread_told : (P Q : Database → Database → Type 0) (o m b c : State) (e : Unread) → TellsAlike P o m b c (Err e) → Tells Q o m b c (Err e)
-unread_told P Q o m b c e h = record { same = λ seen is. cc; differs = λ seen. tt; unread = h.unread; survives = h.survives; survives_too = h.survives_too }
-
-pub alike_told : (P : Database → Database → Type 0) (o m b c : State) → TellsAlike P o m b c (Ok true) → Tells P o m b c (Ok None)
-alike_told P o m b c h = record { same = λ seen is. (h.alike seen refl, (h.same seen).0.0.now_is, (h.same seen).1.0.now_is); differs = λ seen. tt; unread = λ seen. tt; survives = h.survives; survives_too = h.survives_too }
-
 module _ (P : Database → Database → Type 0) (o m b c : State) (are : Bool) (one : TellsAlike P o m b c (Ok are)) where
   -- nothing was told, and nothing changed
   as_told : Tells (λ x y. Unit {0}) o m b c (Ok None)
   as_told = record { same = λ seen e. (tt, (one.same seen).0.0.now_is, (one.same seen).1.0.now_is); differs = λ seen. tt; unread = λ seen. tt; survives = one.survives; survives_too = one.survives_too }
-
-  pub then_told : (Q : Database → Database → Type 0) (n d : State) (r : Result (Option RowKey) Unread) → Tells Q m n c d r → Tells Q o n b d r
-  then_told Q n d r two =
-      let both = tells_both (λ x y. Unit {0}) Q o m n b c d r as_told two in
-      record { same = λ seen e. let s = both.same seen e in (s.0.1, s.1, s.2); differs = both.differs; unread = both.unread; survives = both.survives; survives_too = both.survives_too }
 
   pub both_alike : (Q : Database → Database → Type 0) (n d : State) (r : Result Bool Unread) → are ≡ true → TellsAlike Q m n c d r → TellsAlike (Both P Q) o n b d r
   both_alike Q n d r is two =

@@ -1,5 +1,5 @@
 -- One table after another.
-use Rattle.audits.proofs.Words.{◌≡◌, ℕ, List, [], ◌∷◌, ◌++◌, ◌+◌, ◌<◌, ◌≤◌, length, take, get_or, ap, Vec, Global, Ordering, Option, None, Result, Ok, Err, IfOk, IfErr, refl, sym, subst, ◌∙◌, IfSome, ◌≢◌, take_more, take_all, Database, State, all-append, IsReady, tables_in, Keeps, TableFault, Foreign, Described, Finds, AreAll, rows_of, TableName, AreOnce, FindAlike, IsFirstOther, IsCompared, if_some, inside_itself, inside_then, RowKey, RowDiffers, SameCalled, Unread, Untyped, Store, Both, SameEach, IsUnread, AreSeen, Tells}
+use Rattle.audits.proofs.Words.{◌≡◌, ℕ, List, [], ◌∷◌, ◌++◌, ◌+◌, ◌<◌, ◌≤◌, length, take, get_or, ap, Vec, Global, Ordering, Option, None, Result, Ok, Err, IfOk, IfErr, refl, sym, subst, ◌∙◌, IfSome, take_more, take_all, Database, State, all-append, IsReady, tables_in, Keeps, TableFault, Foreign, Described, Finds, AreAll, rows_of, TableName, AreOnce, FindAlike, IsFirstOther, IsCompared, if_some, inside_itself, inside_then, RowKey, RowDiffers, SameCalled, Unread, Untyped, Store, Both, SameEach, IsUnread, AreSeen, Tells}
 pub use Rattle.whole_tables.proofs.Calls.{unchanged_then, earlier}
 
 module _ (P Q : Database → Database → Type 0) (o m n b c d : State) (r : Result (Option RowKey) Unread) (one : Tells P o m b c (Ok None)) (two : Tells Q m n c d r) where
@@ -41,16 +41,6 @@ module _ (P Q : Database → Database → Type 0) (o m n b c d : State) (r : Res
     survives_too = inside_then b c d one.survives_too two.survives_too;
   }
 
--- what was told stays told, whatever else is wanted
-other_fact : (P Q : Database → Database → Type 0) (o m b c : State) (r : Result (Option RowKey) Unread) → r ≢ Ok None → Tells P o m b c r → Tells Q o m b c r
-other_fact P Q o m b c r other h = record {
-  same = λ seen is. absurd (other is);
-  differs = h.differs;
-  unread = h.unread;
-  survives = h.survives;
-  survives_too = h.survives_too;
-}
-
 pub tells_as : (P Q : Database → Database → Type 0) (o m b c : State) (r : Result (Option RowKey) Unread) → ((x y : Database) → P x y → Q x y) → Tells P o m b c r → Tells Q o m b c r
 tells_as P Q o m b c r turned h = record {
   same = λ seen is. let s = h.same seen is in (turned o.now b.now s.0, s.1, s.2);
@@ -73,12 +63,6 @@ tells_more names i name o m n b c d low is one two =
     tells_as (Both (SameEach (take i names)) (SameCalled name)) (SameEach (take (i + 1) names)) o n b d (Ok None)
     (λ x y h. subst (λ l. SameEach l x y) (sym next) (all-append (λ k. SameCalled k x y) (take i names) (name ∷ []) h.0 (h.1, tt)))
     (tells_both (SameEach (take i names)) (SameCalled name) o m n b c d (Ok None) one two)
-
--- what is told of one table is told of all
-pub tells_other : (names : List TableName) (i : ℕ) (name : TableName) (o m n b c d : State) (r : Result (Option RowKey) Unread) → r ≢ Ok None → Tells (SameEach (take i names)) o m b c (Ok None) → Tells (SameCalled name) m n c d r
-    → Tells (SameEach names) o n b d r
-tells_other names i name o m n b c d r other one two =
-    other_fact (Both (SameEach (take i names)) (SameCalled name)) (SameEach names) o n b d r other (tells_both (SameEach (take i names)) (SameCalled name) o m n b c d r one two)
 
 pub tells_all : (names : List TableName) (i : ℕ) (o m b c : State) → length names ≤ i → Tells (SameEach (take i names)) o m b c (Ok None) → Tells (SameEach names) o m b c (Ok None)
 tells_all names i o m b c all one = subst (λ l. Tells (SameEach l) o m b c (Ok None)) (take_all i names all) one

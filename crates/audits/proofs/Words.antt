@@ -1,7 +1,7 @@
 -- What the proofs of this crate say of what it stands on: each word from where it is defined.
 pub use Rattle.std.specs.List.{AllByRecursion}
 pub use Rattle.std.specs.Prelude.{option_map, ◌⊎◌, ◌↔◌, IfSome}
-pub use Rattle.std.proofs.Common.{◌≡◌, ℕ, List, Option, Some, None, find, true, refl, sym, ap, ◌∙◌, ℤ, ◌≢◌, [], ◌∷◌, ◌++◌, take, drop, length, Result, Ok, Err, IfOk, inl, inr, subst, arith, reverse, IfErr, Vec, Global, Bool, OnOk, ap₂, ◌+◌, ◌<◌, ◌≤◌, get_or, Ordering, IsTrue, rules}
+pub use Rattle.std.proofs.Common.{◌≡◌, ℕ, List, Option, Some, None, find, true, refl, sym, ap, ◌∙◌, ℤ, ◌≢◌, [], ◌∷◌, ◌++◌, take, drop, length, Result, Ok, Err, IfOk, inl, inr, subst, arith, reverse, IfErr, Vec, Global, Bool, OnOk, ap₂, ◌+◌, ◌<◌, ◌≤◌, get_or, Ordering, IsTrue, rules, slice_get}
 pub use Rattle.std.proofs.Math.Seq.{take-append_seam}
 pub use Rattle.std.proofs.lemmas.Grind.{common_steps}
 pub use Rattle.std.proofs.lemmas.List.{length-reverse, reverse-reverse, take_more, take_all, get_or_default}
@@ -12,7 +12,7 @@ pub use Rattle.sqlite.specs.Held.{Held, state}
 pub use Rattle.sqlite.specs.State.{State, IsUnchanged, HasCleanDisk}
 pub use Rattle.sqlite.specs.Tree.{Trees}
 pub use Rattle.sqlite_trees.specs.declared.store.Store.{Ghosts}
-pub use Rattle.sqlite_keyed.proofs.ListLemmas.{all-filter, all_weaker, all-append}
+pub use Rattle.sqlite_keyed.proofs.ListLemmas.{all-filter, all_weaker, all-append, all-slice_get}
 pub use Rattle.values.specs.Values.{same_text}
 pub use Rattle.values.specs.declared.lot.LotId.{LotId}
 pub use Rattle.label.specs.Days.{is_business_day}
@@ -54,8 +54,9 @@ pub use Rattle.whole_tables.specs.declared.halves.Half.{Half}
 pub use Rattle.whole_tables.specs.declared.halves.Half.TheVariants.{Lower, Upper}
 pub use Rattle.whole_tables.specs.declared.key.RowKey.{RowKey}
 pub use Rattle.whole_tables.specs.declared.key.RowKey.TheVariants.{Meta, Card}
+pub use Rattle.whole_tables.specs.Family.{described}
 pub use Rattle.whole_tables.specs.declared.key.TableName.{TableName}
-pub use Rattle.whole_tables.specs.declared.key.TableName.TheVariants.{Items, Least, Bins, Lots, Recalls, Stock, Orders, Urgents, Lines, Staged, Reserved, Shipments, Shiplines, Cards, Repeats}
+pub use Rattle.whole_tables.specs.declared.key.TheConstants.{TABLE_NAMES}
 pub use Rattle.whole_tables.proofs.Halving.{halves_typed, halves_read}
 pub use Rattle.whole_tables.proofs.Handing.{typed_are_all}
 pub use Rattle.whole_tables.proofs.Parting.{if_some}
@@ -79,7 +80,6 @@ pub use Rattle.audits.specs.Beginning.{IsUntold, day_or_missing, IsBegun}
 pub use Rattle.audits.specs.Comparing.{SameTables, AreSeen, Tells, IsUnread, Both, SameEach}
 pub use Rattle.audits.specs.Halves.{SameHalf, TellsAlike}
 pub use Rattle.audits.specs.Raising.{IsBegunOver, AreShown, CannotBeRaised}
-pub use Rattle.audits.specs.declared.comparing.TheConstants.{COMPARED}
 pub use Rattle.audits.specs.declared.finding.Finding.{Finding}
 pub use Rattle.audits.specs.declared.finding.Finding.TheVariants.{Sound, Differs, Unnumbered, Unspelled, Refused}
 pub use Rattle.audits.specs.declared.finding.Unread.{Unread}

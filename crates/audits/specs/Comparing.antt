@@ -8,8 +8,8 @@ use Rattle.table_words.specs.Steps.{IsReady}
 use Rattle.table_words.specs.Typed.{tables_in, Keeps}
 use Rattle.whole_tables.specs.declared.key.RowKey.{RowKey}
 use Rattle.whole_tables.specs.declared.key.TableName.{TableName}
+use Rattle.whole_tables.specs.declared.key.TheConstants.{TABLE_NAMES}
 use Rattle.whole_tables.specs.Differing.{RowDiffers, rule_called, SameCalled}
-use Rattle.audits.specs.declared.comparing.TheConstants.{COMPARED}
 use Rattle.audits.specs.declared.finding.Unread.{Unread}
 use Rattle.audits.specs.declared.finding.Unread.TheVariants.{Untyped, Store}
 
@@ -22,7 +22,7 @@ abbrev pub SameEach : List TableName → Database → Database → Type 0
 SameEach names a b = AllByRecursion (λ n. SameCalled n a b) names
 
 abbrev pub SameTables : Database → Database → Type 0
-SameTables = SameEach COMPARED
+SameTables = SameEach TABLE_NAMES
 
 -- a row of this table has a value that no row has, or memory or the disk did not suffice
 abbrev pub IsUnread : Trees → Unread → Type 0

@@ -25,27 +25,7 @@ use tables::shipments::Shipments;
 use tables::staged::Staged;
 use tables::stock::Stock;
 use tables::urgents::Urgents;
-use whole_tables::TableName;
-
-/// The tables, in the order in which they are compared.
-pub const COMPARED: [TableName; 16] = [
-    TableName::Meta,
-    TableName::Items,
-    TableName::Bins,
-    TableName::Lots,
-    TableName::Recalls,
-    TableName::Stock,
-    TableName::Orders,
-    TableName::Lines,
-    TableName::Staged,
-    TableName::Reserved,
-    TableName::Shipments,
-    TableName::Shiplines,
-    TableName::Cards,
-    TableName::Repeats,
-    TableName::Least,
-    TableName::Urgents,
-];
+use whole_tables::{TABLE_NAMES, TableName};
 
 /// The first row of this table that the two have not alike. Tables that grow with the acts are halved about the rowid `middle`.
 fn compare_table<S: Alter, M: Alter>(
@@ -111,5 +91,5 @@ pub(crate) fn compare_tables<S: Alter, M: Alter>(
     ensures same_reference_too { replayed.new.conn.ghost_name ≡ replayed.old.conn.ghost_name }
     ensures tells { Tells SameTables (state S.Store books.old.conn.now) (state S.Store books.new.conn.now) (state M.Store replayed.old.conn.now) (state M.Store replayed.new.conn.now) result }
 {
-    compare_each(alloc, books, replayed, middle, &COMPARED)
+    compare_each(alloc, books, replayed, middle, &TABLE_NAMES)
 }

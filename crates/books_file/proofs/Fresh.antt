@@ -1,5 +1,5 @@
 -- A file that was opened and settled, over which nothing has happened since.
-use Rattle.std.proofs.Common.{◌≡◌, ◌⊎◌, ℕ, Bool, List, [], ◌∷◌, ap₂, cond, inl, inr, subst}
+use Rattle.std.proofs.Common.{◌≡◌, ℕ, Bool, List, [], ◌∷◌, ap₂, cond, inl, inr, subst}
 use Rattle.sqlite_disk.specs.Events.{Event, replay, settled}
 use Rattle.sqlite_disk.specs.History.{MayLeave}
 

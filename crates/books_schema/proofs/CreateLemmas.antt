@@ -12,7 +12,7 @@ module _ (trees : Trees) (empty : AllByRecursion (λ t. trees t.tree ≡ []) the
   empty_rows = all_weaker (λ t. trees t.tree ≡ []) (λ t. IsRows (trees t.tree)) (λ t e. rw e (tt, tt)) the_tables empty
 
   empty_tables : tables_in trees ≡ no_rows
-  empty_tables = rw (empty.0, empty.1.0, empty.1.1.0, empty.1.1.1.0, empty.1.1.1.1.0, empty.1.1.1.1.1.0, empty.1.1.1.1.1.1.0, empty.1.1.1.1.1.1.1.0, empty.1.1.1.1.1.1.1.1.0, empty.1.1.1.1.1.1.1.1.1.0, empty.1.1.1.1.1.1.1.1.1.1.0, empty.1.1.1.1.1.1.1.1.1.1.1.0, empty.1.1.1.1.1.1.1.1.1.1.1.1.0, empty.1.1.1.1.1.1.1.1.1.1.1.1.1.0, empty.1.1.1.1.1.1.1.1.1.1.1.1.1.1.0, empty.1.1.1.1.1.1.1.1.1.1.1.1.1.1.1.0) refl
+  empty_tables = tables_same (λ tree. []) trees empty
 
   empty_typed : AreTyped trees
   empty_typed = record { each = all_weaker (λ t. trees t.tree ≡ []) (Keeps trees) (λ t none. subst (AllByRecursion (λ r. t.is r ≡ true)) (sym none) tt) the_rules empty }

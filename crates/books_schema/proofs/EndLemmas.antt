@@ -1,5 +1,5 @@
 -- What a transaction comes to, by how it ends.
-use Rattle.books_schema.proofs.Words.{◌≡◌, true, false, Ok, Err, Result, OnOk, OnErr, IfOk, IfErr, sym, subst, inl, inr, IsOk, State, HasCleanDisk, Shows, IsRolledBack, KeepsCommit, Survives, FailsToCommit, Trees, Error, survives_then, kept_undone, kept_unchanged, Ends}
+use Rattle.books_schema.proofs.Words.{◌≡◌, true, false, Ok, Err, Result, OnOk, OnErr, IfErr, sym, subst, inl, inr, IsOk, State, HasCleanDisk, Shows, IsRolledBack, KeepsCommit, Survives, FailsToCommit, Trees, Error, survives_then, kept_undone, kept_unchanged, Ends}
 
 -- in a transaction that goes on, a commit that fails puts back what was there before
 pub rolled_back : (last new : State) (cause : Error) → last.in_transaction ≡ true → FailsToCommit last new cause → IsRolledBack last new
@@ -11,12 +11,7 @@ failed_kept last new cause (inl fails) = kept_undone last new fails.3
 failed_kept last new cause (inr late) = kept_unchanged last new late.2
 
 module _ {T E : Type 0} (made : Error → E → Type 0) where
-  -- what is so of each answer of the transaction, and what of each fault of the commit
-  pub ok_of : (done r : Result T E) (last new : State) (P : T → Type 0) → Ends made done r last new → IfOk done P → IfOk r P
-  ok_of (Ok x) (Ok y) last new P ends h = subst P (sym ends.0) h
-  ok_of (Ok x) (Err e) last new P ends h = tt
-  ok_of (Err e) r last new P ends h = subst (λ r. IfOk r P) (sym ends.0) tt
-
+  -- what is so of each fault of the transaction, and of each of the commit
   pub err_of : (done r : Result T E) (last new : State) (Q : E → Type 0) → Ends made done r last new → ((cause : Error) (e : E) → made cause e → Q e) → IfErr done Q → IfErr r Q
   err_of (Ok x) (Ok y) last new Q ends commit h = tt
   err_of (Ok x) (Err e) last new Q ends commit h = commit ends.0 e ends.1

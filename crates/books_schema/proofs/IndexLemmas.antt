@@ -1,6 +1,5 @@
 -- What a statement that makes an index leaves of the books.
-use Rattle.books_schema.proofs.Words.{◌≡◌, IsTrue, inl, inr, ℕ, ◌+◌, Bool, true, false, is_some, None, Some, slice_get, List, [], ◌∷◌, ◌++◌, Ok, Err, Result, OnErr, refl, sym, ap, subst, ◌∙◌, AllByRecursion, list_all, position_from, cases_Bool, and_parts, CreateIndex, Nothing, indexed, next_tree, Tally, AtPlace, Defines, MakesIndex, Schema, Table, Index, same_name, index_named, Database, IsSound, State, mode_of, Writes, ExecutesInside, KeepsCommit, IsPlain, command_of, statement_of, runs_as, all_both, the_tables, schema_with, is_harmless, HasTables, IsRows, IsReady, Goes, ChangesNone, front, tables_same, typed_same, went, same_value, goes_then, HasIndex, KeepsRows, IsIndexed, plan, Indexes}
-use Rattle.sqlite.specs.Listing.{understood}
+use Rattle.books_schema.proofs.Words.{◌≡◌, IsTrue, inl, inr, ℕ, ◌+◌, Bool, true, false, is_some, None, Some, slice_get, List, [], ◌∷◌, ◌++◌, Ok, Err, Result, OnErr, refl, sym, ap, subst, ◌∙◌, AllByRecursion, list_all, position_from, cases_Bool, and_parts, CreateIndex, Nothing, indexed, next_tree, Tally, AtPlace, Defines, MakesIndex, Schema, Table, Index, same_name, index_named, Database, IsSound, State, mode_of, Writes, ExecutesInside, KeepsCommit, IsPlain, command_of, statement_of, runs_as, all_both, the_tables, schema_with, is_harmless, HasTables, IsRows, IsReady, Goes, ChangesNone, front, tables_same, typed_same, went, same_value, goes_then, HasIndex, KeepsRows, IsIndexed, plan, Indexes, understood}
 use Rattle.sqlite.specs.State.{ExecutesIn}
 
 found_before : (p : Index → Bool) (at : ℕ) (xs : List Index) (x : Index) → is_some (position_from p at xs) ≡ true → is_some (position_from p at (xs ++ x ∷ [])) ≡ true

@@ -1,8 +1,7 @@
 -- A statement that begins a transaction is read whatever the schema: that it is not made ready comes of memory or of the disk.
-use Rattle.books_schema.proofs.Words.{◌≡◌, ◌≤◌, ◌∙◌, [], ap, arith, inl, inr, length, refl, subst, sym, IsTrue, Ok, Schema, Begin, State, Error, compiled, Compiled, Row, plan, IsOfFault, NEVER_RUN}
+use Rattle.books_schema.proofs.Words.{◌≡◌, ◌≤◌, ◌∙◌, [], ap, arith, inl, inr, length, refl, subst, sym, IsTrue, Ok, Schema, Begin, State, Error, compiled, Compiled, Row, plan, IsOfFault, NEVER_RUN, understood}
 use Rattle.sqlite_trees.specs.declared.error.StoreError.TheVariants as stored
 use Rattle.sqlite_tied.specs.Compute.{everything}
-use Rattle.sqlite.specs.Listing.{understood}
 use Rattle.sqlite.specs.State.{IsNotRun}
 use Rattle.books_schema.proofs.IndexTexts.{understood_as}
 

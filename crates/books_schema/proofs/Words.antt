@@ -14,7 +14,7 @@ pub use Rattle.sqlite.specs.Command.TheVariants.{DropIndex, Nothing, CreateTable
 pub use Rattle.sqlite.specs.Does.{Tally, AtPlace, Defines, Leaves, lacks_sequence, MakesIndex}
 pub use Rattle.sqlite.specs.Effect.{Database, IsDatabase, RefusesToAlter}
 pub use Rattle.sqlite.specs.Held.{Held, state}
-pub use Rattle.sqlite.specs.Listing.{misses_table}
+pub use Rattle.sqlite.specs.Listing.{misses_table, understood}
 pub use Rattle.sqlite.specs.Order.{column}
 pub use Rattle.sqlite.specs.Schema.{Schema}
 pub use Rattle.sqlite.specs.State.{State, IsUnchanged, IsLive, mode_of, ExecutesInside, HasCleanDisk, Shows, IsRolledBack, KeepsCommit, Survives, Writes}

@@ -4,16 +4,9 @@ use Rattle.std.specs.List.{AllByRecursion}
 use Rattle.commands.specs.Schemas.{without_least, with_least, without_urgents}
 use Rattle.commands.specs.declared.rows.ItemRow.{ItemRow}
 use Rattle.commands.specs.declared.rows.LeastRow.{LeastRow}
-use Rattle.sqlite.specs.Effect.{Database, IsDatabase}
-use Rattle.sqlite.specs.State.{State}
-use Rattle.sqlite.specs.Tree.{Trees}
-use Rattle.sqlite_schema.specs.declared.schema.Index.{Index}
-use Rattle.table_words.specs.Found.{AreRows}
+use Rattle.books_schema.specs.Words.{Database, IsDatabase, State, Trees, Index, AreRows, items_tree, IsReady, Tables, tables_in, meta_at, item_mapping, same_item, item_key, ItemKey, Rule, first_rules, second_rules, Keeps, AreTyped}
 use Rattle.table_words.specs.Rows.{IsRows}
-use Rattle.table_words.specs.Schema.{items_tree}
-use Rattle.table_words.specs.Steps.{IsReady}
 use Rattle.table_words.specs.Stored.{is_stored_row}
-use Rattle.table_words.specs.Typed.{Tables, tables_in, meta_at, item_mapping, same_item, item_key, ItemKey, Rule, first_rules, second_rules, Keeps, AreTyped}
 use Rattle.books_schema.specs.Indexing.{HasIndexes}
 use Rattle.books_schema.specs.Older.{number, older_tables, lacking_tables, IsOlderSchema, KeepsOlderRows, HasOurs}
 use Rattle.books_schema.specs.declared.older.OlderBooks.{OlderBooks}

@@ -1,12 +1,7 @@
 -- What making the tables of the books leaves.
 use Rattle.std.specs.Prelude.{◌≡◌, true}
-use Rattle.sqlite.specs.Effect.{IsDatabase}
-use Rattle.sqlite.specs.State.{State}
-use Rattle.commands.specs.declared.rows.MetaRow.{MetaRow}
+use Rattle.books_schema.specs.Words.{IsDatabase, State, MetaRow, schema_0, IsReady, Tables, tables_in, no_rows, with_meta, with_bin, AreTyped}
 use Rattle.commands.specs.declared.rows.BinRow.{BinRow}
-use Rattle.table_words.specs.Schema.{schema_0}
-use Rattle.table_words.specs.Steps.{IsReady}
-use Rattle.table_words.specs.Typed.{Tables, tables_in, no_rows, with_meta, with_bin, AreTyped}
 
 -- there is nothing in the database, and a transaction goes on
 pub record IsVoid (s : State) : Type 0 where

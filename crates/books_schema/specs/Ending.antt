@@ -1,8 +1,7 @@
 -- How a transaction ends.
 use Rattle.std.specs.Prelude.{◌≡◌, false, Result, Ok, Err}
-use Rattle.sqlite.specs.State.{State, HasCleanDisk, Shows, IsRolledBack}
+use Rattle.books_schema.specs.Words.{State, HasCleanDisk, Shows, IsRolledBack, Error}
 use Rattle.sqlite.specs.Steps.{FailsToCommit}
-use Rattle.sqlite.specs.declared.error.Error.{Error}
 
 -- What was done is committed, or the commit fails; after an error it is rolled back. An error of the commit is made of
 -- the database's.

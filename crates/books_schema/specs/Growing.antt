@@ -1,17 +1,10 @@
 -- Adding tables behind those that are there.
 use Rattle.std.specs.Prelude.{◌≡◌, ⊤, ℕ, true, false, List, [], ◌∷◌, ◌++◌, Ok, if◌then◌else◌, nat_lt}
 use Rattle.std.specs.List.{AllByRecursion}
-use Rattle.sqlite.specs.Tree.{Trees}
-use Rattle.sqlite.specs.Effect.{IsDatabase}
-use Rattle.sqlite.specs.Schema.{Schema}
-use Rattle.sqlite.specs.Table.{Table}
+use Rattle.books_schema.specs.Words.{Trees, IsDatabase, Schema, Table, table_defined_by, understood, IsPlain, command_of, statement_of, State}
 use Rattle.sqlite.specs.Command.TheVariants.{CreateTable}
-use Rattle.sqlite.specs.Compile.{table_defined_by}
 use Rattle.sqlite.specs.Change.{created}
 use Rattle.sqlite.specs.Does.{lacks_sequence}
-use Rattle.sqlite.specs.Listing.{understood}
-use Rattle.sqlite.proofs.Callers.{IsPlain, command_of, statement_of}
-use Rattle.sqlite.specs.State.{State}
 use Rattle.books_schema.specs.Layouts.{table_at}
 use Rattle.books_schema.specs.declared.layouts.TableLayout.{TableLayout}
 use Rattle.books_schema.specs.declared.steps.Step.{Step}

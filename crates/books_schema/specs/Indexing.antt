@@ -1,21 +1,9 @@
 -- Making the indexes of the books where they are missing.
 use Rattle.std.specs.Prelude.{◌≡◌, ◌⊎◌, ℕ, true, false, List, [], ◌∷◌, codes, Option, None, Some, Result, Ok, Err, is_some, slice_get}
 use Rattle.std.specs.List.{AllByRecursion}
-use Rattle.sqlite.specs.State.{State}
-use Rattle.sqlite.specs.Tree.{Trees}
-use Rattle.sqlite.specs.Schema.{Schema}
-use Rattle.sqlite.specs.Table.{Table}
-use Rattle.sqlite.specs.Compile.{index_defined_by}
-use Rattle.sqlite.specs.Listing.{understood}
-use Rattle.sqlite_schema.specs.Names.{same_name, index_named}
-use Rattle.sqlite_schema.specs.declared.schema.Index.{Index}
-use Rattle.sqlite_schema.specs.declared.command.Command.{Command}
-use Rattle.sqlite_schema.specs.declared.command.Command.TheVariants.{CreateIndex, Nothing}
+use Rattle.books_schema.specs.Words.{State, Trees, Schema, Table, index_defined_by, understood, same_name, index_named, Index, Command, CreateIndex, Nothing, statement_of, the_tables, schema_with, IsReady}
 use Rattle.sqlite_resolve.specs.declared.compiled.Compiled.{Compiled}
 use Rattle.sqlite_resolve.specs.declared.error.CompileError.{CompileError}
-use Rattle.sqlite.proofs.Callers.{statement_of}
-use Rattle.table_words.specs.Schema.{the_tables, schema_with}
-use Rattle.table_words.specs.Steps.{IsReady}
 
 -- there is an index of this name, but for the case of its letters
 abbrev pub HasIndex : Schema → List ℕ → Type 0

@@ -1,11 +1,9 @@
 -- What a table of each layout is, and which lists of tables those of books are.
 use Rattle.std.specs.Prelude.{◌≡◌, ◌+◌, ◌++◌, ◌&&◌, true, not, ℕ, Bool, List, if◌then◌else◌, map, bytes_eq, nat_eq}
 use Rattle.std.specs.List.{list_all}
-use Rattle.sqlite.specs.Table.{Table}
+use Rattle.books_schema.specs.Words.{Table, Index, column, id_table, keyed_table, the_tables, refers_to_none}
 use Rattle.sqlite_value.specs.Keys.{plain}
 use Rattle.sqlite_schema.specs.declared.schema.Column.{Column}
-use Rattle.sqlite_schema.specs.declared.schema.Index.{Index}
-use Rattle.table_words.specs.Schema.{column, id_table, keyed_table, the_tables, refers_to_none}
 use Rattle.books_schema.specs.declared.layouts.TableLayout.{TableLayout}
 use Rattle.books_schema.specs.declared.layouts.IndexLayout.{IndexLayout}
 

@@ -1,18 +1,7 @@
 -- Books of the older schemas, and what is left of their schema without the indexes of the books.
 use Rattle.std.specs.Prelude.{◌≡◌, ℕ, Bool, true, not, ◌&&◌, List, [], ◌∷◌, ◌++◌, codes, length, Option, Some, None, Ok, bytes_eq, nat_lt}
 use Rattle.std.specs.List.{AllByRecursion, list_all, list_any, position_from}
-use Rattle.sqlite.specs.Effect.{IsDatabase}
-use Rattle.sqlite.specs.Listing.{understood}
-use Rattle.sqlite.specs.Schema.{Schema}
-use Rattle.sqlite.specs.State.{State}
-use Rattle.sqlite.specs.Table.{Table}
-use Rattle.sqlite.specs.Tree.{Trees}
-use Rattle.sqlite_schema.specs.Names.{same_name}
-use Rattle.sqlite_schema.specs.declared.schema.Index.{Index}
-use Rattle.sqlite_schema.specs.declared.command.Command.{Command}
-use Rattle.sqlite_schema.specs.declared.command.Command.TheVariants.{DropIndex, Nothing}
-use Rattle.table_words.specs.Found.{no_two}
-use Rattle.table_words.specs.Schema.{first_tables, second_tables, least_table, least_tree, urgents_table, urgents_tree}
+use Rattle.books_schema.specs.Words.{IsDatabase, understood, Schema, State, Table, Trees, same_name, Index, Command, DropIndex, Nothing, no_two, first_tables, second_tables, least_table, least_tree, urgents_table, urgents_tree}
 use Rattle.books_schema.specs.Indexing.{plan}
 use Rattle.books_schema.specs.Layouts.{key_at, PlainIndex, is_of}
 use Rattle.books_schema.specs.declared.older.OlderBooks.{OlderBooks}

@@ -1,15 +1,7 @@
 -- Which trees and schemas are those of books, what they come to, and what is left of a connection that was not opened.
 use Rattle.std.specs.Prelude.{◌≡◌, ◌≤◌, ℤ, IsTrue, ⊤}
-use Rattle.sqlite.specs.Schema.{Schema}
-use Rattle.sqlite.specs.Tree.{Trees}
+use Rattle.books_schema.specs.Words.{Schema, Trees, HasTables, Ghosts, IsClean, doubt, Held, state, Database, State, IsReady}
 use Rattle.sqlite_catalog.specs.Listing.{IsSound}
-use Rattle.table_words.specs.Schema.{HasTables}
-use Rattle.sqlite_trees.specs.declared.store.Store.{Ghosts}
-use Rattle.sqlite_trees.specs.View.{IsClean, doubt}
-use Rattle.sqlite.specs.Held.{Held, state}
-use Rattle.sqlite.specs.Effect.{Database}
-use Rattle.sqlite.specs.State.{State}
-use Rattle.table_words.specs.Steps.{IsReady}
 use Rattle.books_schema.specs.Bringing.{AreFillersTyped, IsOlderReady, IsBrought}
 use Rattle.books_schema.specs.Indexing.{KeepsRows}
 use Rattle.books_schema.specs.Older.{number, IsOlderSchema, KeepsOlderRows}

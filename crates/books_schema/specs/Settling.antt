@@ -2,11 +2,7 @@
 use Rattle.std.specs.Prelude.{◌≡◌, ◌⊎◌, ◌↔◌, ℕ, ℤ, true, Some, option_map}
 use Rattle.std.specs.List.{AllByRecursion}
 use Rattle.commands.specs.declared.limits.TheConstants.{SCHEMA_VERSION}
-use Rattle.commands.specs.declared.rows.MetaRow.{MetaRow}
-use Rattle.sqlite.specs.State.{State}
-use Rattle.sqlite.specs.Tree.{Trees}
-use Rattle.table_words.specs.Steps.{IsReady}
-use Rattle.table_words.specs.Typed.{Tables, tables_in, is_meta_at, meta_rows_rows, meta_at, AreTyped, AreTypedAt}
+use Rattle.books_schema.specs.Words.{MetaRow, State, Trees, IsReady, Tables, tables_in, is_meta_at, meta_rows_rows, meta_at, AreTyped, AreTypedAt}
 use Rattle.books_schema.specs.Indexing.{KeepsRows}
 use Rattle.books_schema.specs.declared.settling.TheConstants.{THIRD}
 

@@ -7,7 +7,7 @@ ghost use Rattle.sqlite_value.specs.Keys.{plain};
 ghost use Rattle.books_schema.specs.Layouts.{table_of, columns_of, BeginsWithTables};
 ghost use Rattle.table_words.specs.Schema.{column, plain_table, keyed_table, id_table, the_tables, schema_0, refers_to_none as refers_to_none_lem, is_harmless as is_harmless_lem, HasTables};
 
-use crate::layouts::{ALL_TABLES, TABLE_COUNT, TableLayout};
+use crate::layouts::{ALL_TABLES, TableLayout};
 use sqlite_items::Items;
 use sqlite_schema::code::Terms;
 use sqlite_schema::schema::{Column, Index, Kind, Schema, Stamps, Table};
@@ -203,13 +203,14 @@ fn are_harmless(found: &[Index]) -> bool
 fn begin_with_tables(alloc: Global, found: &[Table]) -> Result<bool, AllocError>
     ensures { IfOk result (λ yes. IsTrue yes ↔ BeginsWithTables found.now) }
 {
-    if found.len() < TABLE_COUNT {
+    let tables: &[TableLayout] = &ALL_TABLES;
+    if found.len() < tables.len() {
         return Ok(false);
     }
-    if !are_tables(alloc, &found[..TABLE_COUNT])? {
+    if !are_tables(alloc, &found[..tables.len()])? {
         return Ok(false);
     }
-    Ok(are_apart(&found[TABLE_COUNT..]))
+    Ok(are_apart(&found[tables.len()..]))
 }
 
 /// Whether the schema has the tables of the books before any others, which refer to none, and no index that refuses a

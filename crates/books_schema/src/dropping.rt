@@ -1,7 +1,6 @@
 //! Drops the indexes of the books that stand in older books.
 
-ghost use Rattle.std.specs.Prelude.{List, [], ℕ, OnOk};
-ghost use Rattle.std.specs.Prelude.{◌≡◌};
+ghost use Rattle.std.specs.Prelude.{◌≡◌, List, [], ℕ, OnOk};
 ghost use Rattle.sqlite.specs.State.{HasCleanDisk, Survives, KeepsCommit};
 ghost use Rattle.sqlite.specs.Held.{state};
 ghost use Rattle.sqlite.specs.Tree.{Trees};

@@ -22,29 +22,17 @@ pub struct IndexLayout {
     pub columns: &'static [usize],
 }
 
-/// The number of the tables.
-pub const TABLE_COUNT: usize = 16;
-
 /// The tables of all steps, in their order.
-pub const ALL_TABLES: [TableLayout; TABLE_COUNT] = [
+pub const ALL_TABLES: [TableLayout; 16] = [
     META, ITEMS, BINS, LOTS, RECALLS, STOCK, ORDERS, LINES, STAGED, RESERVED, SHIPMENTS, SHIPLINES,
     CARDS, REPEATS, LEAST, URGENTS,
 ];
 
-/// The number of the tables of schema 1.
-pub const FIRST_COUNT: usize = 14;
-
 /// The tables of schema 1, in their order.
-pub const FIRST_TABLES: [TableLayout; FIRST_COUNT] = [
+pub const FIRST_TABLES: [TableLayout; 14] = [
     META, ITEMS, BINS, LOTS, RECALLS, STOCK, ORDERS, LINES, STAGED, RESERVED, SHIPMENTS, SHIPLINES,
     CARDS, REPEATS,
 ];
-
-/// The tables that schema 2 adds.
-pub const SECOND_TABLES: [TableLayout; 1] = [LEAST];
-
-/// The tables that schema 3 adds.
-pub const THIRD_TABLES: [TableLayout; 1] = [URGENTS];
 
 /// A table whose PRIMARY KEY is not the rowid: what makes it, its tree, its name, the places of the key, and its columns.
 macro_rules! keyed_table {
@@ -170,13 +158,13 @@ const REPEATS: TableLayout = keyed_table!(CREATE_REPEATS, 24, b"repeats", [1];
 const CREATE_LEAST: &str =
     "CREATE TABLE least (gtin TEXT NOT NULL, days INTEGER NOT NULL, PRIMARY KEY (gtin)) STRICT";
 
-const LEAST: TableLayout = keyed_table!(CREATE_LEAST, 26, b"least", [1];
+pub const LEAST: TableLayout = keyed_table!(CREATE_LEAST, 26, b"least", [1];
     Text b"gtin", Integer b"days");
 
 const CREATE_URGENTS: &str =
     "CREATE TABLE urgents (ord TEXT NOT NULL, act INTEGER NOT NULL, PRIMARY KEY (ord)) STRICT";
 
-const URGENTS: TableLayout = keyed_table!(CREATE_URGENTS, 28, b"urgents", [1];
+pub const URGENTS: TableLayout = keyed_table!(CREATE_URGENTS, 28, b"urgents", [1];
     Text b"ord", Integer b"act");
 
 /// The number of the keys of schema 2 that are not the rowid.

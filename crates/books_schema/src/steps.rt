@@ -7,7 +7,7 @@ ghost use Rattle.sqlite.specs.State.{HasCleanDisk, Survives, KeepsCommit};
 ghost use Rattle.sqlite.specs.Held.{state};
 ghost use Rattle.books_schema.specs.Growing.{IsGrown, AreMade, grown, added_by, added_above};
 
-use crate::layouts::{FIRST_TABLES, SECOND_TABLES, THIRD_TABLES, TableLayout};
+use crate::layouts::{FIRST_TABLES, LEAST, TableLayout, URGENTS};
 use sqlite::{Alter, Error, Transaction};
 
 /// A step of the schema.
@@ -27,11 +27,11 @@ pub const STEPS: [Step; 3] = [
     },
     Step {
         version: 2,
-        tables: &SECOND_TABLES,
+        tables: &[LEAST],
     },
     Step {
         version: 3,
-        tables: &THIRD_TABLES,
+        tables: &[URGENTS],
     },
 ];
 

@@ -1,6 +1,6 @@
 -- What the proofs of this crate say of what it stands on: each word from where it is defined.
 pub use Rattle.std.specs.List.{AllByRecursion, list_all, list_any}
-pub use Rattle.std.specs.Prelude.{if◌then◌else◌, ◌==◌, flat_map, get_or, ◌||◌, not, find}
+pub use Rattle.std.specs.Prelude.{IfSome, bytes_eq, option_map, if◌then◌else◌, ◌==◌, flat_map, get_or, ◌||◌, not, find}
 pub use Rattle.std.proofs.Common.{◌≡◌, true, List, [], ◌∷◌, refl, sym, ap, ◌∙◌, Result, Ok, ◌≢◌, inl, inr, ℕ, ◌/◌, Option, ◌++◌, map, length, slice_get, Some, None, subst, Bool, false, arith, ◌+◌, ◌<◌, ◌&&◌, take, append_assoc, ◌-◌, drop, add-one, drop-cons}
 pub use Rattle.std.proofs.Math.Seq.{drop-length}
 pub use Rattle.std.proofs.lemmas.Bool.{cases_eq, eq-eqb, ne_eqb, cases_Bool, and_parts, not-true}
@@ -40,7 +40,7 @@ pub use Rattle.commands.specs.Tables.{Tables}
 pub use Rattle.machine.specs.KeyedRows.{no_two}
 pub use Rattle.machine.proofs.Tests.{and_both, or_none, not_true}
 pub use Rattle.row_rules.specs.declared.slice.Change.{Change}
-pub use Rattle.rules.specs.Slices.{changed, AreOnce, unless_put, unless_emptied}
+pub use Rattle.rules.specs.Slices.{changed, are_once, unless_put, unless_emptied}
 unfoldable pub use Rattle.rules.specs.Slices.{applied}
 pub use Rattle.table_words.specs.Calls.{Counts}
 pub use Rattle.table_words.specs.Changed.{Changed}
@@ -60,11 +60,12 @@ pub use Rattle.keyed_rows.specs.Described.{Described, IsLawful, laid, rule_of, s
 pub use Rattle.keyed_rows.specs.Writes.{each_written, Writes, Ran}
 pub use Rattle.keyed_rows.proofs.Laws.{rows_of, typed_rows}
 pub use Rattle.keyed_rows.proofs.Writing.{same_error, writes_none, ran_writes, writes_first, writes_then, writes_failed, writes_more, writes_all}
+pub use Rattle.tables.specs.Lines.{filled_line}
 pub use Rattle.tables.specs.Repeats.{repeats}
 pub use Rattle.whole_tables.specs.Family.{family, Key, described, look, over}
 pub use Rattle.whole_tables.specs.declared.key.TableName.{TableName}
+pub use Rattle.whole_tables.specs.declared.key.TheConstants.{TABLE_NAMES}
 pub use Rattle.whole_tables.specs.declared.key.TableName.TheVariants.{Meta, Items, Least, Bins, Lots, Recalls, Stock, Orders, Urgents, Lines, Staged, Reserved, Shipments, Shiplines, Cards, Repeats}
 pub use Rattle.changes.specs.Many.{AddsMany, many_terms}
-pub use Rattle.changes.specs.Written.{puts, drops, stage_emptied, emptied, table_written, rows_written}
-unfoldable pub use Rattle.changes.specs.Written.{change_written}
-pub use Rattle.changes.specs.declared.writing.TheConstants.{WRITTEN}
+pub use Rattle.changes.specs.Written.{puts, drops, stage_emptied, emptied, table_written, rows_written, table_made, FillsLines}
+unfoldable pub use Rattle.changes.specs.Written.{change_written, change_made}

@@ -1,14 +1,15 @@
 -- The rows of a change: those of each table, and all of them written table by table.
-use Rattle.std.specs.Prelude.{ℕ, List, [], ◌∷◌, Option, Some, None}
+use Rattle.std.specs.Prelude.{◌≡◌, ℕ, List, [], ◌∷◌, Option, Some, None}
 use Rattle.commands.specs.Tables.{Tables}
 use Rattle.keyed_rows.specs.Writes.{each_written}
 use Rattle.keyed_rows.specs.Described.{with_row, without_row}
+use Rattle.tables.specs.Lines.{lines_filled}
 use Rattle.tables.specs.Staged.{without_stage}
 use Rattle.row_rules.specs.declared.slice.Change.{Change}
-use Rattle.whole_tables.specs.Family.{Row, described}
+use Rattle.whole_tables.specs.Family.{Row, Key, described, look}
 use Rattle.whole_tables.specs.declared.key.TableName.{TableName}
+use Rattle.whole_tables.specs.declared.key.TheConstants.{TABLE_NAMES}
 use Rattle.whole_tables.specs.declared.key.TableName.TheVariants.{Meta, Items, Least, Bins, Lots, Recalls, Stock, Orders, Urgents, Lines, Staged, Reserved, Shipments, Shiplines, Cards, Repeats}
-use Rattle.changes.specs.declared.writing.TheConstants.{WRITTEN}
 
 -- the rows that a change puts, and those that it drops
 abbrev pub puts : Change → (n : TableName) → List (Row n)
@@ -54,4 +55,17 @@ table_written c n t = rows_written (with_row (described n)) (λ r. without_row (
 
 -- a change, whole; where no key is put twice it is the change applied
 unfoldable pub change_written : Change → Tables → Tables
-change_written c = each_written (table_written c) WRITTEN
+change_written c = each_written (table_written c) TABLE_NAMES
+
+-- the same where one statement ships all units of each line of an order, if there is one to fill
+abbrev pub table_made : Change → TableName → Option (List ℕ) → Tables → Tables
+table_made c Lines (Some order) t = lines_filled order t
+table_made c n filled t = table_written c n t
+
+-- to put the lines of the change is to ship all units of each line of the order
+abbrev pub FillsLines : Change → List ℕ → Tables → Type 0
+FillsLines c order t = (k : Key Lines) → look Lines (table_written c Lines t) k ≡ look Lines (lines_filled order t) k
+
+-- a change, whole, made so; where its lines fill the order it is the change written
+unfoldable pub change_made : Change → Option (List ℕ) → Tables → Tables
+change_made c filled = each_written (λ n. table_made c n filled) TABLE_NAMES

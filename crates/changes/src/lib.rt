@@ -7,4 +7,4 @@ pub mod adding;
 mod rows;
 mod writing;
 
-pub use writing::{WRITTEN, write_change};
+pub use writing::write_change;

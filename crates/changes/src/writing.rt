@@ -4,7 +4,7 @@ ghost use Rattle.std.specs.Prelude.{◌≡◌};
 ghost use Rattle.sqlite.specs.Held.{state};
 ghost use Rattle.keyed_rows.specs.Writes.{Writes, each_written};
 ghost use Rattle.whole_tables.specs.declared.key.TableName.TheVariants as table_name;
-ghost use Rattle.changes.specs.Written.{stage_emptied, table_written, change_written};
+ghost use Rattle.changes.specs.Written.{stage_emptied, table_written, table_made, change_made};
 
 use crate::rows::{add_many_rows, add_rows, put_new_rows, put_rows, write_new_rows, write_rows};
 use keyed_rows::table::put;
@@ -16,7 +16,7 @@ use tables::bins::Bins;
 use tables::cards::Cards;
 use tables::items::Items;
 use tables::least::Least;
-use tables::lines::Lines;
+use tables::lines::{Lines, fill_lines};
 use tables::lots::Lots;
 use tables::meta::Meta;
 use tables::orders::Orders;
@@ -28,26 +28,7 @@ use tables::staged::{Staged, empty_stage};
 use tables::stock::Stock;
 use tables::urgents::Urgents;
 use values::Name;
-use whole_tables::TableName;
-
-/// The tables that a change writes, in the order in which it writes them.
-pub const WRITTEN: [TableName; 15] = [
-    TableName::Items,
-    TableName::Least,
-    TableName::Bins,
-    TableName::Lots,
-    TableName::Recalls,
-    TableName::Stock,
-    TableName::Orders,
-    TableName::Urgents,
-    TableName::Lines,
-    TableName::Staged,
-    TableName::Reserved,
-    TableName::Shipments,
-    TableName::Shiplines,
-    TableName::Cards,
-    TableName::Meta,
-];
+use whole_tables::{TABLE_NAMES, TableName};
 
 /// Whether the lots that are put first came by this act. Then their units are the first of them too.
 fn brings_lots(change: &Change) -> bool {
@@ -70,8 +51,23 @@ fn brings_items(change: &Change) -> bool {
     !change.put.items.as_slice().is_empty()
 }
 
-/// Lines of orders.
+/// Lines of orders: those of an order that is filled by one statement.
 fn write_lines<S: Alter>(
+    alloc: Global,
+    tx: &mut Transaction<'_, S>,
+    change: &Change,
+    filled: Option<Name>,
+) -> Result<(), TableFault>
+    ensures same_reference { tx.new.conn.ghost_name ≡ tx.old.conn.ghost_name }
+    ensures writes { Writes (table_made change.now table_name.Lines filled) (state S.Store tx.old.conn.now) (state S.Store tx.new.conn.now) result }
+{
+    match filled {
+        Some(order) => fill_lines(tx, &order),
+        None => write_line_rows(alloc, tx, change),
+    }
+}
+
+fn write_line_rows<S: Alter>(
     alloc: Global,
     tx: &mut Transaction<'_, S>,
     change: &Change,
@@ -131,10 +127,11 @@ fn write_table<S: Alter>(
     alloc: Global,
     tx: &mut Transaction<'_, S>,
     change: &Change,
+    filled: Option<Name>,
     table: TableName,
 ) -> Result<(), TableFault>
     ensures same_reference { tx.new.conn.ghost_name ≡ tx.old.conn.ghost_name }
-    ensures writes { Writes (table_written change.now table) (state S.Store tx.old.conn.now) (state S.Store tx.new.conn.now) result }
+    ensures writes { Writes (table_made change.now table filled) (state S.Store tx.old.conn.now) (state S.Store tx.new.conn.now) result }
 {
     let rows = &change.put;
     match table {
@@ -151,7 +148,7 @@ fn write_table<S: Alter>(
         ),
         TableName::Orders => put_rows::<Orders, S>(tx, &rows.orders, takes_orders(change)),
         TableName::Urgents => add_rows::<Urgents, S>(tx, &rows.urgents),
-        TableName::Lines => write_lines(alloc, tx, change),
+        TableName::Lines => write_lines(alloc, tx, change, filled),
         TableName::Staged => write_staged(tx, change),
         TableName::Reserved => write_reserved(alloc, tx, change),
         TableName::Shipments => add_rows::<Shipments, S>(tx, &rows.shipments),
@@ -167,26 +164,29 @@ fn write_tables<S: Alter>(
     alloc: Global,
     tx: &mut Transaction<'_, S>,
     change: &Change,
+    filled: &Option<Name>,
     tables: &[TableName],
 ) -> Result<(), TableFault>
     ensures same_reference { tx.new.conn.ghost_name ≡ tx.old.conn.ghost_name }
-    ensures writes { Writes (each_written (table_written change.now) tables.now) (state S.Store tx.old.conn.now) (state S.Store tx.new.conn.now) result }
+    ensures writes { Writes (each_written (λ n. table_made change.now n filled.now) tables.now) (state S.Store tx.old.conn.now) (state S.Store tx.new.conn.now) result }
 {
     for table in tables {
-        write_table(alloc, tx, change, *table)?;
+        write_table(alloc, tx, change, *filled, *table)?;
     }
     Ok(())
 }
 
 /// Writes a change: drops its rows and puts its rows, and the row of `meta`. Of rows under one
-/// key the last stands.
+/// key the last stands. Where its lines are all lines of an order that is `filled`, each with all its
+/// units shipped, one statement writes them.
 pub fn write_change<S: Alter>(
     alloc: Global,
     tx: &mut Transaction<'_, S>,
     change: &Change,
+    filled: Option<Name>,
 ) -> Result<(), TableFault>
     ensures same_reference { tx.new.conn.ghost_name ≡ tx.old.conn.ghost_name }
-    ensures writes { Writes (change_written change.now) (state S.Store tx.old.conn.now) (state S.Store tx.new.conn.now) result }
+    ensures writes { Writes (change_made change.now filled) (state S.Store tx.old.conn.now) (state S.Store tx.new.conn.now) result }
 {
-    write_tables(alloc, tx, change, &WRITTEN)
+    write_tables(alloc, tx, change, &filled, &TABLE_NAMES)
 }

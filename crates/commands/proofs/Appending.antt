@@ -1,10 +1,5 @@
 -- Fields added one after another.
-use Rattle.std.proofs.Common.{◌≡◌, ℕ, List, [], ◌∷◌, ◌++◌, append_assoc, append-nil, length, map, get_or, take, ◌+◌, ◌<◌, ap, sym, ◌∙◌, Bor}
-use Rattle.std.specs.List.{join_with_byte}
-use Rattle.std.specs.Prelude.{decimal}
-use Rattle.std.proofs.lemmas.List.{take_more, map-append}
-use Rattle.commands.specs.Spelling.{lines_fields, with_line_feeds}
-use Rattle.commands.specs.declared.command.OrderLine.{OrderLine}
+use Rattle.commands.proofs.Below.{◌≡◌, ℕ, List, [], ◌∷◌, ◌++◌, append_assoc, append-nil, length, map, get_or, take, ◌+◌, ◌<◌, ap, sym, ◌∙◌, Bor, join_with_byte, decimal, take_more, map-append, lines_fields, with_line_feeds, OrderLine}
 
 pub appended : (a b c : List ℕ) → (a ++ b) ++ c ≡ a ++ (b ++ c)
 appended a b c = append_assoc a b c

@@ -1,15 +1,7 @@
 -- Spellings and the texts of keys are ASCII.
-use Rattle.std.proofs.Common.{◌≡◌, ℕ, ◌<◌, zero, suc, Bool, true, List, [], ◌∷◌, ◌++◌, refl, arith, lit<}
-use Rattle.std.specs.Prelude.{nat_lt, codes, decimal}
+use Rattle.commands.proofs.Below.{◌≡◌, ℕ, ◌<◌, zero, suc, Bool, true, List, [], ◌∷◌, ◌++◌, refl, arith, lit<, nat_lt, codes, decimal, list_all, join_with_byte, nat_tests, is_name, is_line_no, is_sound, is_sound_key, Key, Plain, Line, Command}
 use Rattle.std.specs.Str.{IsAscii}
-use Rattle.std.specs.List.{list_all, join_with_byte}
-use Rattle.std.proofs.lemmas.Bool.Decides.{nat_tests}
-use Rattle.values.specs.Values.{is_name, is_line_no}
 use Rattle.commands.specs.Spelling.{fields, spelling, key_text}
-use Rattle.commands.specs.Sound.{is_sound, is_sound_key}
-use Rattle.commands.specs.declared.key.Key.{Key}
-use Rattle.commands.specs.declared.key.Key.TheVariants.{Plain, Line}
-use Rattle.commands.specs.declared.command.Command.{Command}
 use Rattle.commands.proofs.Joining.{and_both, all_wider, all-append}
 use Rattle.commands.proofs.Printing.{Printable, is_printable, name_printable, decimal_printable}
 use Rattle.commands.proofs.Fields.{AllPrintable}

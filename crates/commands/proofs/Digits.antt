@@ -1,10 +1,5 @@
 -- The digits of a number.
-use Rattle.std.proofs.lemmas.Fmt.{decimal_step, length-decimal-le}
-use Rattle.std.specs.Prelude.{◌&&◌, codes, decimal}
-use Rattle.std.specs.List.{list_all}
-use Rattle.std.proofs.lemmas.Bool.Decides.{nat_tests}
-use Rattle.values.specs.Values.{is_between, is_name, is_name_char}
-use Rattle.std.proofs.Common.{List, ◌++◌, ◌<◌, ◌+◌, ◌/◌, ◌%◌, ◌^◌, ◌∷◌, [], ◌≡◌, ℕ, ◌≤◌, length, length-append, refl, ap, ◌∙◌, arith, lit<, Bool, true}
+use Rattle.commands.proofs.Below.{decimal_step, length-decimal-le, ◌&&◌, codes, decimal, list_all, nat_tests, is_between, is_name, is_name_char, List, ◌++◌, ◌<◌, ◌+◌, ◌/◌, ◌%◌, ◌^◌, ◌∷◌, [], ◌≡◌, ℕ, ◌≤◌, length, length-append, refl, ap, ◌∙◌, arith, lit<, Bool, true}
 
 -- a number of two digits or more has one digit more than its tenth
 pub one_more : (n : ℕ) → 10 ≤ n → n < 2 ^ 64 → length (decimal n) ≡ length (decimal (n / 10)) + 1

@@ -1,20 +1,6 @@
 -- The fields of sound commands are printable, and tell the values.
-use Rattle.std.proofs.Common.{◌≡◌, ℕ, ◌<◌, ◌^◌, suc, Bool, true, List, [], ◌∷◌, length, refl, ap, ◌∙◌, arith}
-use Rattle.std.specs.Prelude.{ℤ, pos, negsuc, ◌&&◌, decimal}
-use Rattle.std.specs.Fmt.{signed_decimal}
-use Rattle.std.specs.List.{list_all}
-use Rattle.std.proofs.lemmas.Fmt.{decimal_injective, signed_decimal_injective}
-use Rattle.std.proofs.lemmas.Bool.Decides.{nat_tests}
+use Rattle.commands.proofs.Below.{◌≡◌, ℕ, ◌<◌, ◌^◌, suc, Bool, true, List, [], ◌∷◌, length, refl, ap, ◌∙◌, arith, ℤ, pos, negsuc, ◌&&◌, decimal, signed_decimal, list_all, decimal_injective, signed_decimal_injective, nat_tests, is_gtin, is_lot_text, is_qty, is_counted, is_delta, is_between, QTY_MAX, is_least_days, LotId, bin_kind_word, lines_fields, picking_fields, is_lot_id, is_order_line, is_picking, BinKind, Store, Hold, OrderLine, Picking}
 use lib.Signed.{mag}
-use Rattle.values.specs.Values.{is_gtin, is_lot_text, is_qty, is_counted, is_delta, is_between, QTY_MAX, is_least_days}
-use Rattle.values.specs.declared.lot.LotId.{LotId}
-use Rattle.commands.specs.Words.{bin_kind_word}
-use Rattle.commands.specs.Spelling.{lines_fields, picking_fields}
-use Rattle.commands.specs.Sound.{is_lot_id, is_order_line, is_picking}
-use Rattle.commands.specs.declared.command.BinKind.{BinKind}
-use Rattle.commands.specs.declared.command.BinKind.TheVariants.{Store, Hold}
-use Rattle.commands.specs.declared.command.OrderLine.{OrderLine}
-use Rattle.commands.specs.declared.command.Picking.{Picking}
 use Rattle.commands.proofs.Joining.{and_both}
 use Rattle.commands.proofs.Printing.{Printable, name_printable, gtin_printable, lot_printable, decimal_printable, small_size}
 

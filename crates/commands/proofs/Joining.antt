@@ -1,9 +1,5 @@
 -- Texts that do not hold a byte, joined by that byte, can be told apart.
-use Rattle.std.proofs.Common.{◌≡◌, ℕ, Bool, true, false, List, [], ◌∷◌, ◌++◌, refl, ap, sym, arith}
-use Rattle.std.specs.Prelude.{◌&&◌, ◌==◌}
-use Rattle.std.specs.List.{join_with_byte, list_all}
-use Rattle.std.proofs.lemmas.Bool.{eqb-true}
-use Rattle.std.proofs.lemmas.Bool.Decides.{nat_tests}
+use Rattle.commands.proofs.Below.{◌≡◌, ℕ, Bool, true, false, List, [], ◌∷◌, ◌++◌, refl, ap, sym, arith, ◌&&◌, ◌==◌, join_with_byte, list_all, eqb-true, nat_tests}
 
 -- no byte of the text is c
 abbrev pub Lacks : ℕ → List ℕ → Type 0

@@ -1,3 +1,4 @@
+mod Below
 pub mod Appending
 pub mod Naming
 pub mod Digits

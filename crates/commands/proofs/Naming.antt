@@ -1,11 +1,7 @@
 -- The words of kinds and states are read back.
-use Rattle.std.proofs.Common.{◌≡◌, ℕ, Bool, true, false, cond, List, [], ◌∷◌, refl, ap, ◌∙◌}
-use Rattle.std.specs.Prelude.{Some, bytes_eq}
+use Rattle.commands.proofs.Below.{◌≡◌, ℕ, Bool, true, false, cond, List, [], ◌∷◌, refl, ap, ◌∙◌, Some, bytes_eq, named, bin_kind_word, bin_kind_of, order_state_word, order_state_of, card_kind_word, card_kind_of, lot_status_word, lot_status_of, BinKind, Store, Hold}
 use Rattle.std.proofs.lemmas.Slice.Eq.{bytes_eq-Decides}
 use Rattle.commands.specs.Laws.{BinKindsAreNamed, OrderStatesAreNamed, CardKindsAreNamed, LotStatusesAreNamed}
-use Rattle.commands.specs.Words.{named, bin_kind_word, bin_kind_of, order_state_word, order_state_of, card_kind_word, card_kind_of, lot_status_word, lot_status_of}
-use Rattle.commands.specs.declared.command.BinKind.{BinKind}
-use Rattle.commands.specs.declared.command.BinKind.TheVariants.{Store, Hold}
 use Rattle.commands.specs.declared.rows.OrderState.{OrderState}
 use Rattle.commands.specs.declared.rows.OrderState.TheVariants.{Open, Done, Cancelled}
 use Rattle.commands.specs.declared.rows.CardKind.{CardKind}

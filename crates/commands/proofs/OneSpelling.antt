@@ -1,18 +1,6 @@
 -- Two sound commands with one spelling are one command.
-use Rattle.std.proofs.Common.{◌≡◌, ℕ, ◌+◌, ◌*◌, true, false, List, [], ◌∷◌, refl, ap, ◌∙◌, arith}
-use Rattle.std.specs.Prelude.{ℤ, pos, negsuc, ◌&&◌, ◌==◌, codes, decimal, IsTrue, nat_le}
-use Rattle.std.specs.Fmt.{signed_decimal}
-use Rattle.std.specs.List.{list_all}
-use Rattle.std.proofs.lemmas.Bool.Decides.{nat_tests}
-use Rattle.values.specs.Values.{is_name, is_title, is_gtin, is_qty, is_counted, is_delta, is_least_days}
-use Rattle.label.specs.Days.{is_day, is_business_day, day_text}
-use Rattle.values.specs.declared.lot.LotId.{LotId}
-use Rattle.commands.specs.Limits.{has_order_lines}
-use Rattle.commands.specs.Words.{bin_kind_word}
+use Rattle.commands.proofs.Below.{◌≡◌, ℕ, ◌+◌, ◌*◌, true, false, List, [], ◌∷◌, refl, ap, ◌∙◌, arith, ℤ, pos, negsuc, ◌&&◌, ◌==◌, codes, decimal, IsTrue, nat_le, signed_decimal, list_all, nat_tests, is_name, is_title, is_gtin, is_qty, is_counted, is_delta, is_least_days, is_day, is_business_day, day_text, LotId, has_order_lines, bin_kind_word, is_sound, is_lot_id, is_order_line, are_lines, is_new_order, is_picking, BinKind, OrderLine, Picking, Command, Item, Bin, Receive, Move, Count, Adjust, Order, Cancel, Pick, Unpick, Ship, Release, Recall, OpenDay, Least, Urgent}
 use Rattle.commands.specs.Spelling.{fields, spelling, lines_fields, order_fields, picking_fields}
-use Rattle.commands.specs.Sound.{is_sound, is_lot_id, is_order_line, are_lines, is_new_order, is_picking}
-use Rattle.commands.specs.declared.command.BinKind.{BinKind}
-use Rattle.commands.specs.declared.command.OrderLine.{OrderLine}
 use Rattle.commands.specs.declared.command.NewItem.{NewItem}
 use Rattle.commands.specs.declared.command.NewBin.{NewBin}
 use Rattle.commands.specs.declared.command.Receipt.{Receipt}
@@ -20,10 +8,8 @@ use Rattle.commands.specs.declared.command.Movement.{Movement}
 use Rattle.commands.specs.declared.command.Recount.{Recount}
 use Rattle.commands.specs.declared.command.Adjustment.{Adjustment}
 use Rattle.commands.specs.declared.command.NewOrder.{NewOrder}
-use Rattle.commands.specs.declared.command.Picking.{Picking}
 use Rattle.commands.specs.declared.command.NewLeast.{NewLeast}
-use Rattle.commands.specs.declared.command.Command.{Command}
-use Rattle.commands.specs.declared.command.Command.TheVariants.{Item, Bin, Receive, Move, Count, Adjust, Order, Cancel, Pick, Unpick, Ship, Hold, Release, Recall, OpenDay, Least, Urgent}
+use Rattle.commands.specs.declared.command.Command.TheVariants.{Hold}
 use Rattle.commands.proofs.Joining.{AllLack, PartsLack, lacks_failing, joined_same, and_both}
 use Rattle.commands.proofs.Printing.{Printable, is_printable, name_printable, title_printable, gtin_printable, signed_printable, day_printable}
 use Rattle.label.proofs.DayTexts.{day_text_injective}

@@ -1,13 +1,5 @@
 -- Two sound keys with one text are one key.
-use Rattle.std.proofs.Common.{◌≡◌, ℕ, ◌<◌, ◌^◌, true, List, [], ◌∷◌, ◌++◌, refl, ap, ◌∙◌, arith, append_assoc}
-use Rattle.std.specs.Prelude.{IsTrue, decimal}
-use Rattle.std.proofs.lemmas.Fmt.{decimal_injective}
-use Rattle.std.proofs.lemmas.Bool.Decides.{nat_tests}
-use Rattle.values.specs.Values.{is_name, is_line_no}
-use Rattle.commands.specs.Spelling.{key_text}
-use Rattle.commands.specs.Sound.{is_sound_key}
-use Rattle.commands.specs.declared.key.Key.{Key}
-use Rattle.commands.specs.declared.key.Key.TheVariants.{Plain, Line}
+use Rattle.commands.proofs.Below.{◌≡◌, ℕ, ◌<◌, ◌^◌, true, List, [], ◌∷◌, ◌++◌, refl, ap, ◌∙◌, arith, append_assoc, IsTrue, decimal, decimal_injective, nat_tests, is_name, is_line_no, key_text, is_sound_key, Key, Plain, Line}
 use Rattle.commands.proofs.Joining.{first_part, and_both}
 use Rattle.commands.proofs.Printing.{name_lacks}
 

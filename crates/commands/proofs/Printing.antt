@@ -1,13 +1,5 @@
 -- Every field of a command is printable ASCII: it holds no line feed.
-use Rattle.std.proofs.Common.{◌≡◌, ℕ, ◌+◌, ◌<◌, ◌^◌, ◌/◌, ◌%◌, zero, suc, Bool, true, false, List, [], ◌∷◌, ◌++◌, length, refl, arith}
-use Rattle.std.specs.Prelude.{ℤ, pos, negsuc, ◌&&◌, ◌||◌, ◌==◌, codes, decimal}
-use Rattle.std.specs.Fmt.{signed_decimal}
-use Rattle.std.specs.List.{list_all, list_any}
-use Rattle.std.proofs.lemmas.Fmt.{decimal_by_steps}
-use Rattle.std.proofs.lemmas.Bool.{eqb-true}
-use Rattle.std.proofs.lemmas.Bool.Decides.{nat_tests}
-use Rattle.values.specs.Values.{is_name, is_title, is_gtin, is_lot_text, is_delta, is_between, is_one_of, is_upper, is_lower, is_digit, is_name_char, is_set_82, has_no_edge_space, QTY_MAX, LOT_MAX, TITLE_MAX}
-use Rattle.label.specs.Days.{last_digits, day_text, date_of}
+use Rattle.commands.proofs.Below.{◌≡◌, ℕ, ◌+◌, ◌<◌, ◌^◌, ◌/◌, ◌%◌, zero, suc, Bool, true, false, List, [], ◌∷◌, ◌++◌, length, refl, arith, ℤ, pos, negsuc, ◌&&◌, ◌||◌, ◌==◌, codes, decimal, signed_decimal, list_all, list_any, decimal_by_steps, eqb-true, nat_tests, is_name, is_title, is_gtin, is_lot_text, is_delta, is_between, is_one_of, is_upper, is_lower, is_digit, is_name_char, is_set_82, has_no_edge_space, QTY_MAX, LOT_MAX, TITLE_MAX, last_digits, day_text, date_of}
 use Rattle.commands.proofs.Joining.{Lacks, lacks_failing, and_both, and_true, all_wider, all-append}
 
 abbrev pub is_printable : ℕ → Bool

@@ -1,17 +1,11 @@
 -- Worked examples.
-use Rattle.std.proofs.Common.{◌≡◌, ℕ, true, false, List, [], ◌∷◌, refl}
-use Rattle.std.specs.Prelude.{pos, negsuc, codes}
+use Rattle.commands.proofs.Below.{◌≡◌, ℕ, true, false, List, [], ◌∷◌, refl, pos, negsuc, codes, LotId, ORDER_LINES_MAX, ITEMS_MAX, BINS_MAX, UNITS_MAX, OPEN_MAX, ACTS_MAX, SHORT_MAX, KEY_TEXT_MAX, CARD_NOTE_MAX, MARK, SCHEMA_VERSION, is_sound, is_sound_key, Plain, Line, Command, Receive, Adjust, Order, OpenDay, Least}
 use Rattle.std.specs.Fmt.{digits}
 use Rattle.label.specs.Days.{date_in_year, date_after, date_of}
-use Rattle.values.specs.declared.lot.LotId.{LotId}
-use Rattle.commands.specs.Limits.{ORDER_LINES_MAX, ITEMS_MAX, BINS_MAX, UNITS_MAX, OPEN_MAX, ACTS_MAX, SHORT_MAX, KEY_TEXT_MAX, CARD_NOTE_MAX, MARK, SCHEMA_VERSION}
 use Rattle.commands.specs.Refusals.{refusal_code}
 use Rattle.commands.specs.Spelling.{spelling, key_text}
-use Rattle.commands.specs.Sound.{is_sound, is_sound_key}
 use Rattle.commands.specs.declared.refusal.Refusal.TheVariants.{OverReserved, NoNotice}
-use Rattle.commands.specs.declared.key.Key.TheVariants.{Plain, Line}
-use Rattle.commands.specs.declared.command.Command.{Command}
-use Rattle.commands.specs.declared.command.Command.TheVariants.{Receive, Adjust, Order, Hold, OpenDay, Least}
+use Rattle.commands.specs.declared.command.Command.TheVariants.{Hold}
 
 abbrev OAT : List ℕ
 OAT = codes "09506000134352"

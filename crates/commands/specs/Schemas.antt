@@ -6,24 +6,7 @@ use Rattle.commands.specs.declared.rows.LeastRow.{LeastRow}
 
 -- schema 1 has no table `least`: it is seen as one without rows
 abbrev pub without_least : Tables → Tables
-without_least t = record {
-  meta = t.meta;
-  item = t.item;
-  least = λ g. None;
-  bin = t.bin;
-  lot = t.lot;
-  recall = t.recall;
-  stock = t.stock;
-  order = t.order;
-  urgent = t.urgent;
-  line = t.line;
-  staged = t.staged;
-  reserved = t.reserved;
-  shipment = t.shipment;
-  shipline = t.shipline;
-  card = t.card;
-  repeat = t.repeat;
-}
+without_least t = record t { least = λ g. None }
 
 -- each item asks for 0 days
 abbrev pub asking_none : Option ItemRow → Option LeastRow
@@ -32,42 +15,8 @@ asking_none (Some i) = Some (record { gtin = i.gtin; days = 0 })
 
 -- and it has a row that says so
 abbrev pub with_least : Tables → Tables
-with_least t = record {
-  meta = t.meta;
-  item = t.item;
-  least = λ g. asking_none (t.item g);
-  bin = t.bin;
-  lot = t.lot;
-  recall = t.recall;
-  stock = t.stock;
-  order = t.order;
-  urgent = t.urgent;
-  line = t.line;
-  staged = t.staged;
-  reserved = t.reserved;
-  shipment = t.shipment;
-  shipline = t.shipline;
-  card = t.card;
-  repeat = t.repeat;
-}
+with_least t = record t { least = λ g. asking_none (t.item g) }
 
 -- schema 2 has no table `urgents`: when it is made it has no rows
 abbrev pub without_urgents : Tables → Tables
-without_urgents t = record {
-  meta = t.meta;
-  item = t.item;
-  least = t.least;
-  bin = t.bin;
-  lot = t.lot;
-  recall = t.recall;
-  stock = t.stock;
-  order = t.order;
-  urgent = λ o. None;
-  line = t.line;
-  staged = t.staged;
-  reserved = t.reserved;
-  shipment = t.shipment;
-  shipline = t.shipline;
-  card = t.card;
-  repeat = t.repeat;
-}
+without_urgents t = record t { urgent = λ o. None }

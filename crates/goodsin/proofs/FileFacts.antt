@@ -1,18 +1,11 @@
 -- What the first records of a file, and all of them, make of its reading.
-use Rattle.std.proofs.Common.{◌≡◌, ◌∙◌, ◌+◌, ◌-◌, ◌≤◌, ◌∷◌, ◌++◌, [], ℕ, zero, suc, ℤ, List, Option, Some, None, Bool, true, false, if◌then◌else◌, length, sym, ap, refl, arith, append_assoc, Result, Ok, Err}
+use Rattle.goodsin.proofs.Words.{◌≡◌, ◌∙◌, ◌+◌, ◌-◌, ◌≤◌, ◌∷◌, ◌++◌, [], ℕ, zero, suc, ℤ, List, Option, Some, None, Bool, true, false, if◌then◌else◌, length, sym, ap, refl, arith, append_assoc, Result, Ok, Err, Key, Command, State, before, file_read, file_records, row_read, rows_read, AreAll, Begins, HasOther, Fields, is_header, Header}
 use Rattle.std.proofs.lemmas.List.{append-nil}
-use Rattle.commands.specs.declared.key.Key.{Key}
-use Rattle.commands.specs.declared.command.Command.{Command}
 use Rattle.csv.specs.Machine.{Read, ends_at_end, field_after, fields_after, is_end, next_record, step}
 use Rattle.csv.specs.Reading.{Reached, default_config, records_from, strip_bom}
 use Rattle.csv.specs.declared.parser.Config.{Config}
-use Rattle.csv.specs.declared.parser.State.{State}
 use Rattle.csv.specs.declared.parser.State.TheVariants as st
-use Rattle.goodsin.specs.Files.{before, file_read, file_records, row_read, rows_read}
-use Rattle.goodsin.specs.Reading.{AreAll, Begins, HasOther}
-use Rattle.goodsin.specs.Rows.{Fields, is_header}
 use Rattle.goodsin.specs.declared.fault.FileFault.{FileFault}
-use Rattle.goodsin.specs.declared.fault.FileFault.TheVariants.{Header}
 
 none_some : (p : Read) → ◌≡◌ {A = _} None (Some p) → ⊥
 none_some p e = cc e

@@ -1,3 +1,4 @@
+mod Words
 pub mod FileFacts
 pub mod RowFacts
 pub mod Steps

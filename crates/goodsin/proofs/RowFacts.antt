@@ -1,15 +1,8 @@
 -- What a row reads as.
-use Rattle.std.proofs.Common.{◌≡◌, ◌≢◌, ◌∙◌, ◌<◌, ◌≤◌, ◌∷◌, ◌++◌, [], ℕ, ℤ, List, Option, Some, None, length, option_and_then, option_map, IfSome, refl, sym, Err}
+use Rattle.goodsin.proofs.Words.{◌≡◌, ◌≢◌, ◌∙◌, ◌<◌, ◌≤◌, ◌∷◌, ◌++◌, [], ℕ, ℤ, List, Option, Some, None, length, option_and_then, option_map, IfSome, refl, sym, Err, Key, Line, Command, row_read, Begins, HasOther, Fields, IsReceipt, command_of, line_at, name_at, receipt_of, received, Row, TooManyRows, Length}
 use Rattle.std.proofs.lemmas.Bool.{le-ltb, lt-ltb, ne_eqb}
 use Rattle.std.specs.Option.{ok_or}
-use Rattle.commands.specs.declared.key.Key.{Key}
-use Rattle.commands.specs.declared.key.Key.TheVariants.{Line}
-use Rattle.commands.specs.declared.command.Command.{Command}
 use Rattle.commands.specs.declared.command.Receipt.{Receipt}
-use Rattle.goodsin.specs.Files.{row_read}
-use Rattle.goodsin.specs.Reading.{Begins, HasOther}
-use Rattle.goodsin.specs.Rows.{Fields, IsReceipt, command_of, line_at, name_at, receipt_of, received}
-use Rattle.goodsin.specs.declared.fault.FileFault.TheVariants.{Row, TooManyRows, Length}
 
 some_same : (m n : ℕ) → Some m ≡ Some n → m ≡ n
 some_same m n e = cc e

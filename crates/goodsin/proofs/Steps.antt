@@ -1,16 +1,12 @@
 -- What one read adds to the records behind which a reader stands.
-use Rattle.std.proofs.Common.{◌≡◌, ◌≢◌, ◌∷◌, ◌++◌, [], ℕ, List, Option, Some, None, IfSome, option_map, true, false, sym, refl}
+use Rattle.goodsin.proofs.Words.{◌≡◌, ◌≢◌, ◌∷◌, ◌++◌, [], ℕ, List, Option, Some, None, IfSome, option_map, true, false, sym, refl, State, Begins, HasOther, Stands, fault_of, Fields, Length, Memory, Reader as ReaderFault}
 use Rattle.csv.specs.Machine.{Read}
 use Rattle.csv.specs.Reading.{ExplainsRead, NextIs, Reached, ReadsNext, ReadRecord, default_config, expected_len, pending_of, reader_config, reader_state, source_of, strip_bom}
 use Rattle.csv.specs.declared.error.ErrorKind.{ErrorKind}
 use Rattle.csv.specs.declared.error.ErrorKind.TheVariants as kind
-use Rattle.csv.specs.declared.parser.State.{State}
 use Rattle.csv.specs.declared.parser.State.TheVariants as st
 use Rattle.csv.specs.declared.reader.Reader.{Reader}
 use Rattle.csv.proofs.ReadFacts.{reached-more, rows-more}
-use Rattle.goodsin.specs.Reading.{Begins, HasOther, Stands, fault_of}
-use Rattle.goodsin.specs.Rows.{Fields}
-use Rattle.goodsin.specs.declared.fault.FileFault.TheVariants.{Length, Memory, Reader as ReaderFault}
 
 next_is : (o : Option Read) (f : Fields) (s : State) (z : List ℕ) → NextIs o true f s z → (p : Read) × (o ≡ Some p) × (p.0 ≡ f)
 next_is None f s z n = cc n

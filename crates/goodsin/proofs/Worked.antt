@@ -5,13 +5,8 @@ use Rattle.csv.specs.Records.{field_at}
 use Rattle.label.specs.Expiry.{expiry_read}
 use Rattle.label.specs.Days.{day_number}
 use Rattle.label.proofs.OnLiterals.{dates_on_literals}
-use Rattle.commands.specs.declared.key.Key.{Key}
-use Rattle.commands.specs.declared.key.Key.TheVariants.{Line}
-use Rattle.commands.specs.declared.command.Command.{Command}
+use Rattle.goodsin.proofs.Words.{Key, Line, Command, file_read, file_records, row_read, Fields, command_of, number_of, Header, Row, TooManyRows, Length}
 use Rattle.commands.specs.declared.command.Command.TheVariants.{Receive}
-use Rattle.goodsin.specs.Files.{file_read, file_records, row_read}
-use Rattle.goodsin.specs.Rows.{Fields, command_of, number_of}
-use Rattle.goodsin.specs.declared.fault.FileFault.TheVariants.{Header, Row, TooManyRows, Length}
 
 -- 2026-05-04
 abbrev today : ℤ

@@ -1,5 +1,5 @@
 -- A line of which another piece has come.
-use Rattle.histories.proofs.Words.{◌≡◌, ◌≢◌, ℕ, zero, suc, ◌+◌, ◌-◌, ◌<◌, true, eq-eqb, eqb-true, refl, inl, inr, Some, None, List, [], ◌∷◌, ◌++◌, append_assoc, length, length-append, take, drop, All, sym, ap, subst, ◌∙◌, arith, Option, take-length, StartsWith, StopsAt, IsEmptyOrEndsWith, appended_bytes, ◌==◌, if◌then◌else◌, OnSome, cases_Bool, Consumes, IsAtEnd, starts_with_rest, Consumes-trans, take_more, All-append, All-nil, IsPart, IsLine, Ended, Whole, Part}
+use Rattle.histories.proofs.Words.{◌≡◌, ◌≢◌, ℕ, zero, suc, ◌+◌, ◌-◌, ◌<◌, true, eq-eqb, eqb-true, refl, inl, inr, Some, None, List, [], ◌∷◌, ◌++◌, append_assoc, length, length-append, take, All, sym, ap, subst, ◌∙◌, arith, Option, take-length, StartsWith, StopsAt, IsEmptyOrEndsWith, appended_bytes, ◌==◌, if◌then◌else◌, OnSome, cases_Bool, Consumes, IsAtEnd, starts_with_rest, Consumes-trans, take_more, All-append, All-nil, IsPart, IsLine, Ended, Whole, Part}
 
 -- what is so where it is told later, is so where it is told now
 pub end_back : (a b c : Option (List ℕ)) (bytes : List ℕ) → Consumes a b bytes → OnSome b (IsAtEnd c) → OnSome a (IsAtEnd c)

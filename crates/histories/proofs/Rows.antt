@@ -1,5 +1,5 @@
 -- What a fault tells of the rows of the acts.
-use Rattle.histories.proofs.Words.{◌≡◌, ℕ, List, inl, inr, subst, Option, Some, ℤ, AllByRecursion, StopsWithin, RepeatRow, Act, IsHistory, repeat_row, GoOnFrom, IsOfSpelling, row_line, HistoryFault, unread, unspelled, IsNoMisfit, IsUnlike, TakesRow, ReadFault, LineFault, KnownLines}
+use Rattle.histories.proofs.Words.{◌≡◌, ℕ, List, inl, inr, subst, Option, Some, ℤ, AllByRecursion, StopsWithin, RepeatRow, Act, IsHistory, repeat_row, GoOnFrom, IsOfSpelling, row_line, HistoryFault, unspelled, IsNoMisfit, IsUnlike, TakesRow, LineFault, KnownLines}
 use Rattle.histories.specs.declared.fault.HistoryFault.TheVariants as history
 use Rattle.histories.proofs.InTurn.{not_in_turn}
 use Rattle.histories.specs.LineFaults.{IsOfRow}
@@ -18,10 +18,6 @@ pub of_unspelled : (done : ℕ) (row : RepeatRow) (why : HistoryFault) → IsOfS
 of_unspelled done row history.Store h = tt
 of_unspelled done row history.Foreign h = inr h
 of_unspelled done row history.Output h = tt
-
-pub of_unread : (done : ℕ) (row : RepeatRow) (why : ReadFault) → IsOfRow done row (unread why)
-of_unread done row read.Memory = tt
-of_unread done row read.Input = tt
 
 -- it is told that a row is foreign only where the rows are not in turn
 pub of_rows : {R : Type 0} (remaining : R → Option (List ℕ)) (first : ℤ) (acts : List Act) (rows : List RepeatRow) (start after : KnownLines R) → IsHistory first acts → start.done ≡ 0 → AllByRecursion (λ (r : RepeatRow). repeat_row first acts r.k ≡ Some r) rows

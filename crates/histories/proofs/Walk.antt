@@ -1,5 +1,5 @@
 -- The rows of the acts, taken beside the lines of a text.
-use Rattle.histories.proofs.Words.{◌≡◌, ◌≢◌, ℕ, ◌+◌, List, [], ◌∷◌, ◌++◌, append_assoc, append-nil, length, find, inl, inr, refl, sym, ap, subst, ◌∙◌, arith, Option, Some, ◌⊎◌, ℤ, OnSome, AllByRecursion, Consumes, IsAtEnd, Consumes-trans, same_text, Reaches, ReachesWithin, StopsWithin, key_text, spelling, RepeatRow, Act, next_number, IsHistory, today, repeat_row, history_line, IsDayAfter, row_line, act_line, newer_text, row_of, IsPart, IsLine, IsNoMisfit, Knows, EndsHere, TakesRow, Misses, AtPlace, BeforeText, WithinText, BehindText, HasPassed, HasBroken, MissesLine, IsRead, IsStart, LineFault, KnownLines, Before, Within, Behind}
+use Rattle.histories.proofs.Words.{◌≡◌, ◌≢◌, ℕ, ◌+◌, List, [], ◌∷◌, ◌++◌, append-nil, find, inl, inr, refl, sym, ap, subst, ◌∙◌, arith, Option, ◌⊎◌, ℤ, OnSome, AllByRecursion, Consumes, IsAtEnd, Consumes-trans, same_text, Reaches, ReachesWithin, StopsWithin, key_text, spelling, RepeatRow, Act, next_number, IsHistory, today, repeat_row, history_line, IsDayAfter, row_line, act_line, newer_text, row_of, IsLine, IsNoMisfit, Knows, EndsHere, TakesRow, Misses, AtPlace, HasPassed, HasBroken, MissesLine, IsRead, IsStart, LineFault, KnownLines, Before, Within, Behind}
 use Rattle.histories.proofs.Printed.{line_is}
 use Rattle.histories.proofs.Walking.{Walks, IsOfActs, SoFar, all_so_far, front_all, at_next, next, later_parts, next_history, whole}
 use Rattle.histories.specs.Known.{Passes, StopsAt}

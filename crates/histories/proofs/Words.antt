@@ -69,14 +69,14 @@ pub use Rattle.whole_tables.proofs.Owned.{at_place, owned}
 pub use Rattle.histories.specs.Books.{row_of, GoOnFrom, AreInTurn, IsNoSpelling, IsOutOfTurn, HasRowsOf}
 pub use Rattle.histories.specs.Faults.{IsOfRow, IsOfSpelling, IsOfRows, fault_of}
 pub use Rattle.histories.specs.Known.{IsUnlike, TakesRow, Knows, EndsHere, Misses}
-pub use Rattle.histories.specs.LineFaults.{unread, unspelled, IsNoMisfit}
+pub use Rattle.histories.specs.LineFaults.{unspelled, IsNoMisfit}
 pub use Rattle.histories.specs.Lines.{AddsLine, StopsLine, IsDayAfter, row_line}
 pub use Rattle.histories.specs.Newer.{act_line, newer_text, AreWrittenAbove}
 pub use Rattle.histories.specs.Printed.{IsHistoryPrinted}
 pub use Rattle.histories.specs.Reading.{Bears, IsPart, IsLine}
 pub use Rattle.histories.specs.Start.{told_first, start_of, Passes, IsFound, Finds, IsStartBy, IsPassed, TellsDay}
 pub use Rattle.histories.specs.Text.{history_line, history_text}
-pub use Rattle.histories.specs.Walked.{AtPlace, BeforeText, WithinText, BehindText, HasPassed, HasBroken, MissesLine, IsRead, IsStart}
+pub use Rattle.histories.specs.Walked.{AtPlace, HasPassed, HasBroken, MissesLine, IsRead, IsStart}
 pub use Rattle.histories.specs.declared.fault.HistoryFault.{HistoryFault}
 pub use Rattle.histories.specs.declared.fault.HistoryFault.TheVariants.{Foreign, Output}
 pub use Rattle.histories.specs.declared.first_start.FirstStart.{FirstStart}
@@ -86,5 +86,4 @@ pub use Rattle.histories.specs.declared.line_fault.LineFault.{LineFault}
 pub use Rattle.histories.specs.declared.lines.HistoryLines.{HistoryLines}
 pub use Rattle.histories.specs.declared.reading.Ended.{Ended}
 pub use Rattle.histories.specs.declared.reading.Ended.TheVariants.{Whole, Part}
-pub use Rattle.histories.specs.declared.reading.ReadFault.{ReadFault}
 pub use Rattle.histories.specs.declared.start.CardDay.{CardDay}

@@ -1,5 +1,5 @@
 -- The rows of the acts, held against the lines of a text. `remaining` is what a reader has left, where it tells that.
-use Rattle.std.specs.Prelude.{◌≡◌, ◌≢◌, ◌⊎◌, ◌+◌, ℕ, ℤ, List, Option, OnSome, length}
+use Rattle.std.specs.Prelude.{◌≡◌, ◌≢◌, ◌⊎◌, ◌+◌, ℕ, ℤ, List, Option, OnSome}
 use Rattle.std.specs.Io.KnownBytes.{Consumes, IsAtEnd}
 use Rattle.commands.specs.declared.rows.RepeatRow.{RepeatRow}
 use Rattle.histories.specs.Lines.{IsDayAfter, row_line}

@@ -12,28 +12,11 @@ served_answer first acts act e = ap (λ b. if b then outcome_answer (outcome fir
 served_acts : (first : ℤ) (acts : List Act) (act : Act) → is_served act ≡ true → acts_with first acts act ≡ acts_after first acts act
 served_acts first acts act e = ap (λ b. if b then acts_after first acts act else acts) e
 
-unserved_answer : (first : ℤ) (acts : List Act) (act : Act) → is_served act ≡ false → act_answer first acts act ≡ not_served
-unserved_answer first acts act e = ap (λ b. if b then outcome_answer (outcome first acts act) else not_served) e
-
-unserved_acts : (first : ℤ) (acts : List Act) (act : Act) → is_served act ≡ false → acts_with first acts act ≡ acts
-unserved_acts first acts act e = ap (λ b. if b then acts_after first acts act else acts) e
-
 module _ {S : Type 0} (g : Ghosts S) (first : ℤ) (acts : List Act) (old : Connected S) where
   -- an answer after which the books are the same
   pub tells : (wanted bytes : List ℕ) → bytes ≡ wanted → IsHistory first acts → HoldsBooks g first acts old
       → IsDone g first acts old wanted acts bytes old ⊎ IsUndone g first acts old acts bytes old
   tells wanted bytes e history holds = inl (record { answer = e; history = history; holds = holds; kept = λ trees left. inr (left, refl) })
-
-  pub unserved : (act : Act) (bytes : List ℕ) → is_served act ≡ false → bytes ≡ not_served → IsHistory first acts → HoldsBooks g first acts old
-      → IsDone g first acts old (act_answer first acts act) (acts_with first acts act) bytes old ⊎ IsUndone g first acts old (acts_with first acts act) bytes old
-  unserved act bytes never e history holds =
-      let same = sym (unserved_acts first acts act never) in
-      inl (record {
-        answer = e ∙ sym (unserved_answer first acts act never);
-        history = subst (IsHistory first) same history;
-        holds = subst (λ a. HoldsBooks g first a old) same holds;
-        kept = λ trees left. inr (left, sym same);
-      })
 
   -- what is done with a label that was read at the business day
   pub scanned : (d : Delivered) (text : List ℕ) (day : ℤ) (read : Result Label LabelFault) (bytes : List ℕ) (books : Connected S) → read ≡ label_read day text → day ≡ today first acts

@@ -1,18 +1,10 @@
 -- What each reading of a text is answered, and the acts after it. An answer is its bytes.
 use Rattle.std.specs.Prelude.{ℕ, if◌then◌else◌, Bool, List, take, Option, Result, Ok, Err, ℤ}
-use Rattle.values.specs.declared.lot.LotId.{LotId}
-use Rattle.label.specs.Labels.{label_read}
+use Rattle.house.specs.Words.{LotId, label_read, refusal_code, Refusal, Key, Command, Act, today, Outcome, Accepted, Repeated, Refused, outcome, acts_after, is_key_of, FileOutcome, Taken, RefusedRow, file_outcome, acts_after_file, Ask, Do, Scan, GoodsIn, Show, Query, Read, Need, Bad, Request, answer_bytes, code_text, Answer, BooksAnswer, OpenOrdersAnswer, ItemNamesAnswer, ExpiringAnswer, BinAnswer, OrderAnswer, StockAnswer, Text}
 use Rattle.label.specs.declared.gs1.Label.{Label}
 use Rattle.values.specs.declared.fault.LabelFault.{LabelFault}
-use Rattle.commands.specs.Refusals.{refusal_code}
-use Rattle.commands.specs.declared.refusal.Refusal.{Refusal}
-use Rattle.commands.specs.declared.key.Key.{Key}
 use Rattle.commands.specs.declared.key.Key.TheVariants.{Line}
-use Rattle.commands.specs.declared.command.Command.{Command}
 use Rattle.commands.specs.declared.command.Command.TheVariants.{Receive}
-use Rattle.machine.specs.Acts.{Act}
-use Rattle.machine.specs.Standing.{today}
-use Rattle.machine.specs.Once.{Outcome, Accepted, Repeated, Refused, outcome, acts_after, is_key_of, FileOutcome, Taken, RefusedRow, file_outcome, acts_after_file}
 use Rattle.machine.specs.Queries.{order_shown, short_shown, stock_shown, card_shown, notice_shown}
 use Rattle.overviews.specs.Shown.{books_shown, open_orders_shown, item_names_shown, expiring_shown, bin_shown}
 use Rattle.goodsin.specs.Faults.{file_fault_code}
@@ -20,17 +12,8 @@ use Rattle.goodsin.specs.Files.{file_read}
 use Rattle.goodsin.specs.declared.fault.FileFault.{FileFault}
 use Rattle.goodsin.specs.declared.fault.FileFault.TheVariants.{Header, Row, TooManyRows, Length, Reader, Memory}
 use Rattle.store.specs.Filing.{rows_of}
-use Rattle.requests.specs.declared.ask.Ask.{Ask}
-use Rattle.requests.specs.declared.ask.Ask.TheVariants.{Do, Scan, GoodsIn, Show}
-use Rattle.requests.specs.declared.ask.Query.{Query}
 use Rattle.requests.specs.declared.ask.Query.TheVariants.{Books, OpenOrders, ItemNames, Expiring, Bin, Order, Stock, PickList, Shortages, Card, Notice}
-use Rattle.requests.specs.declared.request.Read.{Read}
-use Rattle.requests.specs.declared.request.Read.TheVariants.{Need, Bad, Request}
-use Rattle.wire.specs.Answers.{answer_bytes}
-use Rattle.wire.specs.Shorts.{code_text}
 pub use Rattle.wire.specs.ShortAnswers.{short_answer, fault_answer, not_served, no_memory, foreign_books, label_answer, tally_answer, row_conflict, cause_answer, cause_row_answer}
-use Rattle.wire.specs.declared.answer.Answer.{Answer}
-use Rattle.wire.specs.declared.answer.Answer.TheVariants.{Books as BooksAnswer, OpenOrders as OpenOrdersAnswer, ItemNames as ItemNamesAnswer, Expiring as ExpiringAnswer, Bin as BinAnswer, Order as OrderAnswer, Stock as StockAnswer, Text}
 use Rattle.texts.specs.PickList.{pick_list_text}
 use Rattle.texts.specs.Shortages.{shortages_text}
 use Rattle.texts.specs.Card.{card_text}

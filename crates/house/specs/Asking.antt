@@ -1,26 +1,11 @@
 -- What the parts of a house do: the words of the functions below `answer`.
 use Rattle.std.specs.Prelude.{◌≡◌, ◌⊎◌, ℕ, List, Result, Ok, Err, ℤ}
-use Rattle.label.specs.Labels.{label_read}
-use Rattle.commands.specs.Refusals.{refusal_code}
-use Rattle.commands.specs.declared.key.Key.{Key}
-use Rattle.commands.specs.declared.command.Command.{Command}
-use Rattle.sqlite_trees.specs.declared.store.Store.{Ghosts}
-use Rattle.sqlite_trees.specs.Tree.{Trees}
-use Rattle.machine.specs.Acts.{Act}
-use Rattle.machine.specs.Once.{IsHistory}
-use Rattle.machine.specs.Standing.{today}
-use Rattle.wire.specs.Answers.{answer_bytes}
-use Rattle.wire.specs.Shorts.{code_text}
-use Rattle.wire.specs.declared.answer.Answer.{Answer}
-use Rattle.wire.specs.declared.answer.Answer.TheVariants.{Text}
-use Rattle.store.specs.Connected.{Connected}
+use Rattle.house.specs.Words.{label_read, refusal_code, Key, Command, Ghosts, Trees, Act, IsHistory, today, answer_bytes, code_text, Answer, Text, Connected, Fault, Store, Foreign, AreBooks, HoldsBooks, MayLeave}
 use Rattle.store.specs.declared.reply.Reply.{Reply}
 use Rattle.store.specs.declared.tally.Tally.{Tally}
 use Rattle.store.specs.declared.tally.RowFault.{RowFault}
 use Rattle.store.specs.declared.tally.RowFault.TheVariants as row
-use Rattle.store.specs.declared.fault.Fault.{Fault}
-use Rattle.store.specs.declared.fault.Fault.TheVariants.{Refused, Store, Foreign}
-use Rattle.store.specs.Books.{AreBooks, HoldsBooks, MayLeave}
+use Rattle.store.specs.declared.fault.Fault.TheVariants.{Refused}
 use Rattle.house.specs.Answers.{short_answer, no_memory, foreign_books, tally_answer, row_conflict, Delivered, scan_answer, acts_scanned}
 
 abbrev pub act_of : Key → Command → Act

@@ -1,19 +1,8 @@
 -- The machine over texts: a step, a run, and the house whose books are those of the acts.
 use Rattle.std.specs.Prelude.{◌≡◌, ◌≢◌, ◌⊎◌, ℕ, List, [], ◌∷◌, ◌++◌, zip, Contains, map, codes, Vec, ℤ}
-use Rattle.sqlite_trees.specs.declared.store.Store.{Ghosts}
-use Rattle.sqlite_trees.specs.Tree.{Trees}
+use Rattle.house.specs.Words.{Ghosts, Trees, Act, IsHistory, IsReading, Ask, Show, Query, Read, Need, Bad, Request, Connected, AreBooks, HoldsBooks, AreAsBefore}
 use Rattle.sqlite.specs.Held.{state}
 use Rattle.sqlite.specs.State.{State}
-use Rattle.machine.specs.Acts.{Act}
-use Rattle.machine.specs.Once.{IsHistory}
-use Rattle.requests.specs.Requests.{IsReading}
-use Rattle.requests.specs.declared.ask.Ask.{Ask}
-use Rattle.requests.specs.declared.ask.Ask.TheVariants.{Show}
-use Rattle.requests.specs.declared.ask.Query.{Query}
-use Rattle.requests.specs.declared.request.Read.{Read}
-use Rattle.requests.specs.declared.request.Read.TheVariants.{Need, Bad, Request}
-use Rattle.store.specs.Connected.{Connected}
-use Rattle.store.specs.Books.{AreBooks, HoldsBooks, AreAsBefore}
 use Rattle.house.specs.Answers.{answer_of, acts_of, fault_answer, no_memory, status_of}
 use Rattle.house.specs.declared.answered.Answered.{Answered}
 use Rattle.house.specs.declared.answered.Answered.TheVariants.{Short, Long}

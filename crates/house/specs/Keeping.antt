@@ -1,11 +1,6 @@
 -- What is kept of the acts of a house, before they are answered.
 use Rattle.std.specs.Prelude.{◌≢◌, ◌⊎◌, ℤ, List, codes, Result, OnOk, OnErr}
-use Rattle.sqlite_trees.specs.declared.store.Store.{Ghosts}
-use Rattle.sqlite_trees.specs.Tree.{Trees}
-use Rattle.machine.specs.Acts.{Act}
-use Rattle.machine.specs.Once.{IsHistory}
-use Rattle.store.specs.Connected.{Connected}
-use Rattle.store.specs.Books.{HoldsBooks}
+use Rattle.house.specs.Words.{Ghosts, Trees, Act, IsHistory, Connected, HoldsBooks}
 use Rattle.house.specs.Answers.{status_of}
 use Rattle.house.specs.declared.answered.Answered.{Answered}
 use Rattle.house.specs.declared.answered.Answered.TheVariants.{Short, Long}

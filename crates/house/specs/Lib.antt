@@ -1,3 +1,4 @@
+mod Words
 pub mod Answers
 pub mod Asking
 pub mod House

@@ -1,23 +1,13 @@
 -- What comes of writing the stock card or the recall notice of a lot.
 use Rattle.std.specs.Prelude.{◌≡◌, ℕ, ℤ, List, [], Option, Result, Ok, Err}
 use Rattle.std.specs.Io.KnownBytes.{Appends}
-use Rattle.values.specs.declared.lot.LotId.{LotId}
-use Rattle.commands.specs.declared.refusal.Refusal.{Refusal}
+use Rattle.house.specs.Words.{LotId, Refusal, Ghosts, Trees, Act, AppendsBeginning, Answer, Text, Connected, HoldsBooks, MayLeave, Fault as StoreFault, Store, Foreign}
 use Rattle.commands.specs.declared.rows.ItemRow.{ItemRow}
 use Rattle.commands.specs.declared.views.CardView.{CardView}
-use Rattle.sqlite_trees.specs.declared.store.Store.{Ghosts}
-use Rattle.sqlite_trees.specs.Tree.{Trees}
-use Rattle.machine.specs.Acts.{Act}
 use Rattle.machine.specs.Cards.{lot_units_in_house}
 use Rattle.machine.specs.Views.{card_of_lot}
-use Rattle.texts.specs.Writing.{AppendsBeginning}
 use Rattle.texts.specs.declared.fault.TextFault.{TextFault}
-use Rattle.wire.specs.declared.answer.Answer.{Answer}
-use Rattle.wire.specs.declared.answer.Answer.TheVariants.{Text}
-use Rattle.store.specs.Connected.{Connected}
-use Rattle.store.specs.Books.{HoldsBooks, MayLeave}
-use Rattle.store.specs.declared.fault.Fault.{Fault as StoreFault}
-use Rattle.store.specs.declared.fault.Fault.TheVariants.{Refused, Store, Foreign}
+use Rattle.store.specs.declared.fault.Fault.TheVariants.{Refused}
 use Rattle.store.specs.declared.each_fault.EachFault.{EachFault}
 use Rattle.store.specs.declared.each_fault.EachFault.TheVariants.{Fault, Stopped}
 

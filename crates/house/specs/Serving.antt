@@ -1,18 +1,10 @@
 -- What is read of a reader and written to a writer. `from` and `to` are the bytes that the reader had left, where they are known.
 use Rattle.std.specs.Prelude.{◌≡◌, ◌≢◌, ◌⊎◌, ℕ, List, [], false, Option, Result, Ok, Err, ℤ, codes}
 use Rattle.std.specs.Io.KnownBytes.{Appends, Consumes, IsAtEnd}
-use Rattle.sqlite_trees.specs.declared.store.Store.{Ghosts}
-use Rattle.machine.specs.Acts.{Act}
-use Rattle.machine.specs.Once.{IsHistory}
-use Rattle.requests.specs.Requests.{IsReading}
+use Rattle.house.specs.Words.{Ghosts, Act, IsHistory, IsReading, Read, Bad, AppendsBeginning, HoldsBooks, AreAsBefore, Connected}
 use Rattle.requests.specs.Laws.{needs_more}
 use Rattle.requests.specs.declared.fault.WireFault.TheVariants.{Memory}
-use Rattle.requests.specs.declared.request.Read.{Read}
-use Rattle.requests.specs.declared.request.Read.TheVariants.{Bad}
-use Rattle.texts.specs.Writing.{AppendsBeginning}
 use Rattle.wire.specs.Logging.{log_line}
-use Rattle.store.specs.Books.{HoldsBooks, AreAsBefore}
-use Rattle.store.specs.Connected.{Connected}
 use Rattle.house.specs.Answers.{no_memory, status_of}
 use Rattle.house.specs.House.{Answers, StepsTo}
 

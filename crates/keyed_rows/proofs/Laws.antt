@@ -1,5 +1,5 @@
 -- What the statements on a table make of the books, of any table that keeps the laws.
-use Rattle.keyed_rows.proofs.Words.{◌≡◌, ◌≢◌, ℕ, Bool, true, false, not, List, [], ◌∷◌, filter, map, length, slice_get, Some, None, inl, inr, IsTrue, refl, sym, ap, subst, ◌∙◌, arith, Equal, if◌then◌else◌, ◌↔◌, AllByRecursion, cases_Bool, cases_eq, eq-eqb, ne_eqb, nat_tests, State, Trees, with_tree, Database, Chosen, runs_as, reads_as, all_both, all-slice_get, all-filter, with_rowid, is_taken, rowid, put_row, is_int, Has, all_has, all_from, Null, value_cmp, AreRows, only_if, typed-filter, both_typed, shown_typed, the_tables, schema_with, IsRows, typed, Changed, Tables, tables_in, Rule, the_rules, Keeps, AreTyped, IsReady, Goes, Counts, over, filter_same_on, IsRows-filter, IsRows-over, IsRows-put_row, all_put_row, any_counted, none_counted_pass, none_over, stays_put, Column, Unique, tests_from, passes, show, goes_in, updates, deletes, ready_after, sets_off_nothing, goes, typed_at, typed_put, front, AtMostOne, one_by_key, few, none_had, meets, found_put, found_over, found_without, are_rows, are_rows_if, keyed, Described, IsLawful, Change, IsChange, DropIs, Query, IsSought, laid, rule_of, sound, with_row, without_row, found, stored_of}
+use Rattle.keyed_rows.proofs.Words.{◌≡◌, ◌≢◌, ℕ, Bool, true, false, not, List, [], ◌∷◌, filter, map, length, slice_get, Some, None, inl, inr, IsTrue, refl, sym, ap, subst, ◌∙◌, arith, if◌then◌else◌, ◌↔◌, AllByRecursion, cases_Bool, cases_eq, eq-eqb, ne_eqb, nat_tests, State, Trees, with_tree, Database, Chosen, runs_as, reads_as, all_both, all-slice_get, all-filter, with_rowid, is_taken, rowid, put_row, is_int, all_has, all_from, Null, AreRows, only_if, typed-filter, both_typed, shown_typed, the_tables, schema_with, IsRows, typed, Changed, Tables, tables_in, Rule, the_rules, Keeps, AreTyped, IsReady, Goes, Counts, over, filter_same_on, IsRows-filter, IsRows-put_row, all_put_row, any_counted, none_counted_pass, none_over, stays_put, Column, Unique, tests_from, passes, show, goes_in, updates, deletes, ready_after, sets_off_nothing, goes, typed_at, typed_put, front, AtMostOne, one_by_key, none_had, meets, found_put, found_over, found_without, are_rows_if, keyed, Described, IsLawful, Change, IsChange, DropIs, Query, IsSought, laid, rule_of, sound, with_row, without_row, found, stored_of, IsRows-rewritten}
 use Rattle.sqlite.specs.Order.{Row}
 use Rattle.sqlite.specs.State.{Shown}
 pub use Rattle.keyed_rows.specs.KeyLaws.{rows_of, apart, found_by_key}
@@ -52,15 +52,15 @@ module _ {X K : Type 0} (d : Described X K) (laws : IsLawful d) where
       let after = over p (c.values s) rows in
       let rest = ready.has.rest in
       let w = runs_as c.text params old new (schema_with rest) ready.has.is _ (it.is rest).0 (it.is rest).1 count h.executes.0 in
-      let u = updates (schema_with rest) d.place tree _ _ _ _ _ _ (laws.placed rest) (λ olds news. sets_off_nothing rest tree olds news ready.has.apart) old new d.tests c.terms _ params (c.values s) count ready.has.is kept (it.changed s) (it.casts s) (few p rows kept.0 (laws.one_row old.now ready params)) w in
+      let u = updates (schema_with rest) d.place tree _ _ _ _ _ _ (laws.placed rest) (λ olds news. sets_off_nothing rest tree olds news ready.has.apart) old new d.tests c.terms _ params (λ _. c.values s) count ready.has.is kept (it.changed s) (λ _ _ _. it.casts s) w in
       let mode = h.executes.1.mode ∙ sym h.inside in
       let typed_after : AreTyped old.now.trees → AreTyped (with_tree old.now.trees tree after) = λ are.
       typed_put old.now.trees (rule_of d) after (all_over_ids (λ r. d.is r ≡ true) p (c.values s) rows (λ r int e. (it.becomes s r good int e).0) kept.1 (typed_rows d laws old.now.trees are)) d.place laws.ruled are in (
-        λ some. goes old new tree after _ ready (IsRows-over p (c.values s) rows kept) u.0 mode
+        λ some. goes old new tree after _ ready (IsRows-rewritten p (λ _. c.values s) rows kept) u.0 mode
             (with_is old.now.trees after s (λ k. found_over d.is d.reads p (λ x. d.same (d.key s) (d.key x)) (λ x. d.same k (d.key x)) (d.same k (d.key s)) (meets d.same d.key laws.one_key (d.key s) k) (at_own s) s refl (c.values s) rows kept.1
             (λ r int e. it.becomes s r good int e) (any_counted p rows (λ none. some (u.1 ∙ none)))))
             typed_after,
-        λ none. goes old new tree after _ ready (IsRows-over p (c.values s) rows kept) u.0 mode
+        λ none. goes old new tree after _ ready (IsRows-rewritten p (λ _. c.values s) rows kept) u.0 mode
             (ap (λ l. tables_in (with_tree old.now.trees tree l)) (none_over p (c.values s) rows (none_counted_pass p rows (sym u.1 ∙ none))) ∙ laws.sets old.now.trees rows ∙ (λ i. d.set (sym (laws.looks old.now.trees) i) (tables_in old.now.trees)) ∙ laws.same_set (tables_in old.now.trees))
             typed_after,
       )

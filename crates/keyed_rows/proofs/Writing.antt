@@ -1,5 +1,5 @@
 -- Writes one after another.
-use Rattle.keyed_rows.proofs.Words.{List, [], ◌∷◌, ◌++◌, ◌+◌, ◌<◌, ◌≤◌, length, take, get_or, ◌≡◌, ◌≢◌, inl, inr, ℕ, Result, Ok, Err, refl, sym, ap, subst, ◌∙◌, arith, IsErr, IsErrAnd, take_more, take_all, Held, state, State, HasCleanDisk, Survives, KeepsCommit, Tables, tables_in, IsReady, Goes, ChangesNone, Counts, TableFault, Foreign, goes_then, none_then, kept_itself, kept_then, inside_itself, inside_then, WritesBy, Writes, WereTyped, WritesInside, Spares, Ran, each_written}
+use Rattle.keyed_rows.proofs.Words.{List, [], ◌∷◌, ◌++◌, ◌+◌, ◌<◌, ◌≤◌, length, take, get_or, ◌≡◌, ◌≢◌, inl, inr, ℕ, Result, Ok, Err, refl, sym, ap, subst, ◌∙◌, arith, IsErr, IsErrAnd, take_more, take_all, Held, state, State, HasCleanDisk, Survives, KeepsCommit, Tables, IsReady, Goes, ChangesNone, Counts, TableFault, Foreign, goes_then, kept_itself, kept_then, inside_itself, inside_then, WritesBy, Writes, WereTyped, WritesInside, Ran, each_written}
 use Rattle.sqlite.specs.Order.{Row}
 use Rattle.sqlite.specs.Store.{Ghosts}
 
@@ -25,14 +25,6 @@ writes_then to next a b c x (Err e) one two = record {
   never_foreign = two.never_foreign;
 }
 
--- what is refused after a call that made nothing of the tables
-pub spares_then : {X Y : Type 0} (to : X → Tables → Tables) (a b c : State) (x : X) (r : Result Y TableFault) → WritesBy to a b (Ok x) → ((t : Tables) → to x t ≡ t) → Survives b c (λ _. ⊥) → Spares b c r → Spares a c r
-spares_then to a b c x (Ok y) one none survives two clean ready = tt
-spares_then to a b c x (Err e) one none survives two clean ready =
-    let was = earlier b c survives clean in
-    let p = one.done was ready in
-    none_then a b c (record { ready = p.ready; tables = p.tables ∙ none (tables_in a.now.trees); mode = p.mode; typed = p.typed }) (one.kept was) (two clean p.ready)
-
 -- a call after one that was refused
 module _ {S Y : Type 0} (g : Ghosts S) (next : Y → Tables → Tables) (a b c : Held S) (e : TableFault) (y : Y) (spared : HasCleanDisk (state g b) → IsReady (state g a).now → ChangesNone (state g a) (state g b)) (kept : HasCleanDisk (state g b) → KeepsCommit (state g a) (state g b)) (survived : Survives (state g a) (state g b) (λ _. ⊥)) (other : e ≢ Foreign) where
   went_on : WritesInside g next b c (Ok y) → HasCleanDisk (state g c) → IsReady (state g a).now → Goes (λ t. t) (state g a) (state g b)
@@ -52,33 +44,6 @@ module _ {S Y : Type 0} (g : Ghosts S) (next : Y → Tables → Tables) (a b c :
     never_foreign = tt;
   }
 
-  -- it made nothing of the tables either
-  pub spares_none : (Z : Type 0) → ((t : Tables) → next y t ≡ t) → WritesInside g next b c (Ok y) → Spares {X = Z} (state g a) (state g c) (Err e)
-  spares_none Z none two clean ready =
-      let on = went_on two clean ready in
-      let p = two.writes.done clean on.ready in
-      inl (goes_then (λ t. t) (λ t. t) (state g a) (state g b) (state g c) on (record { ready = p.ready; tables = p.tables ∙ none (tables_in (state g b).now.trees); mode = p.mode; typed = p.typed }))
-
--- both were refused
-pub spares_both : {S Y : Type 0} (Z : Type 0) (g : Ghosts S) (next : Y → Tables → Tables) (a b c : Held S) (e f : TableFault) → (HasCleanDisk (state g b) → IsReady (state g a).now → ChangesNone (state g a) (state g b)) → (HasCleanDisk (state g b) → KeepsCommit (state g a) (state g b)) → WritesInside g next b c (Err f)
-    → Spares {X = Z} (state g a) (state g c) (Err e)
-spares_both Z g next a b c e f spared kept two clean ready =
-    let was = earlier (state g b) (state g c) two.writes.survives clean in
-    elim (spared was ready) [
-      | inl same ↦ none_then (state g a) (state g b) (state g c) same (kept was) (two.refused clean same.ready)
-      | inr undone ↦ subst (λ h. ChangesNone (state g a) (state g h)) (sym (two.outside undone.autocommit)) (inr undone)
-    ]
-
--- whatever is answered after a call that was refused, its fault is told
-pub tells_fault : {S Y Z : Type 0} (g : Ghosts S) (to : Z → Tables → Tables) (next : Y → Tables → Tables) (a b c : Held S) (e : TableFault) (r : Result Y TableFault) → e ≢ Foreign → (HasCleanDisk (state g b) → KeepsCommit (state g a) (state g b)) → Survives (state g a) (state g b) (λ _. ⊥)
-    → WritesInside g next b c r → WritesBy to (state g a) (state g c) (Err e)
-tells_fault g to next a b c e r other kept survived two = record {
-  done = λ _ _. tt;
-  kept = λ clean. kept_then (state g a) (state g b) (state g c) (kept (earlier (state g b) (state g c) two.writes.survives clean)) (two.writes.kept clean);
-  survives = inside_then (state g a) (state g b) (state g c) survived two.writes.survives;
-  never_foreign = other;
-}
-
 -- a statement that ran
 pub ran_writes : {S X : Type 0} (g : Ghosts S) (sql : List ℕ) (params : Row) (old new : Held S) (n : ℕ) (x : X) (to : X → Tables → Tables) → Ran g sql params old new (Ok n)
     → (IsReady (state g old).now → Counts n sql params (state g old) (state g new) → Goes (to x) (state g old) (state g new)) → WritesInside g to old new (Ok x)
@@ -86,14 +51,6 @@ ran_writes g sql params old new n x to h goes = record {
   writes = record { done = λ clean ready. goes ready (h.ran clean); kept = h.kept; survives = h.survives; never_foreign = tt };
   refused = λ _ _. tt;
   inside = λ clean. (h.ran clean).inside;
-  outside = h.outside;
-}
-
-pub ran_refused : {S X : Type 0} (g : Ghosts S) (sql : List ℕ) (params : Row) (old new : Held S) (e : TableFault) (to : X → Tables → Tables) → Ran g sql params old new (Err e) → WritesInside g to old new (Err e)
-ran_refused g sql params old new e to h = record {
-  writes = record { done = λ _ _. tt; kept = h.kept; survives = h.survives; never_foreign = h.never_foreign };
-  refused = h.refused;
-  inside = λ _. tt;
   outside = h.outside;
 }
 

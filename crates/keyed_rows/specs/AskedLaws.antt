@@ -3,17 +3,11 @@ use Rattle.std.proofs.Common.{◌≡◌, ℕ, ◌+◌, Bool, true, ◌&&◌, byt
 use Rattle.std.specs.List.{AllByRecursion, list_all}
 use native.Mathlib.Numerals.{unary_clauses}
 use Rattle.sqlite_value.specs.declared.value.Value.{Value}
-use Rattle.sqlite_value.specs.declared.value.Value.TheVariants.{Text}
-use Rattle.sqlite_value.specs.Order.{Row, column}
+use Rattle.keyed_rows.specs.Words.{Text, Row, column, all_of, all_weaker, Columns, is_the_text, tests_from, passes, in_order}
 use Rattle.sqlite_value.specs.declared.keys.Collation.TheVariants.{Binary}
 use Rattle.sqlite_sql.specs.declared.ops.BinaryOp.TheVariants.{Compare}
 use Rattle.sqlite_sql.specs.declared.ops.CompareOp.TheVariants.{Eq}
 use Rattle.sqlite_sql.specs.Ops.{binary, is_true}
-use Rattle.sqlite_keyed.proofs.ListLemmas.{all_of, all_weaker}
-use Rattle.table_words.specs.Stored.{Columns}
-use Rattle.table_words.specs.Cells.{is_the_text}
-use Rattle.table_words.proofs.Plans.{tests_from}
-use Rattle.table_words.proofs.ScanLemmas.{passes, in_order}
 use Rattle.table_words.proofs.CellLemmas.{and_true, same_word, equals_text}
 use Rattle.keyed_rows.specs.Described.{Described, IsLawful, IsSought}
 use Rattle.keyed_rows.specs.Asks.{Compared, Asks, with_each, each, is_sought, params_of, tests_of, query_of, AreSought, IsText, AreTexts, IsAsked}

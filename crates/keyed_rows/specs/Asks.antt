@@ -1,16 +1,8 @@
 -- Queries of the rows in which columns of the key have the texts that are sought.
 use Rattle.std.specs.Prelude.{◌≡◌, ℕ, ◌+◌, Bool, true, ◌&&◌, nat_le, bytes_eq, List, [], ◌∷◌, map}
 use Rattle.std.specs.List.{AllByRecursion}
-use Rattle.sqlite_value.specs.declared.value.Value.TheVariants.{Text}
-use Rattle.sqlite_value.specs.Order.{Row, column, bytes}
-use Rattle.sqlite.specs.Term.{Term}
+use Rattle.keyed_rows.specs.Words.{Text, Row, column, bytes, Term, Tables, is_word, is_the_text, AreRows, Columns, COLUMNS_MAX, tests_from, by_rowid}
 use Rattle.values.specs.declared.lot.LotId.{LotId}
-use Rattle.commands.specs.Tables.{Tables}
-use Rattle.table_words.specs.Cells.{is_word, is_the_text}
-use Rattle.table_words.specs.Found.{AreRows}
-use Rattle.table_words.specs.Stored.{Columns}
-use Rattle.table_words.specs.declared.chain.TheConstants.{COLUMNS_MAX}
-use Rattle.table_words.proofs.Plans.{tests_from, by_rowid}
 use Rattle.keyed_rows.specs.Described.{Described, Query, QueryIs}
 
 -- a column that is compared: where it stands, which text of a key it has, and the text that is sought

@@ -1,36 +1,22 @@
 -- A table of the books as one description, and the laws that it keeps.
 use Rattle.std.specs.Prelude.{◌≡◌, ℕ, Bool, true, false, ◌++◌, ◌/◌, if◌then◌else◌, length, List, [], ◌∷◌, filter, map, find, slice_get, Option, Some, None, IsTrue}
+use Rattle.keyed_rows.specs.Words.{Term, col, Column, Database, value_rows, IsPlain, understood, reads_listing, Trees, with_tree, rowid, Tables, the_tables, schema_with, plain_table, typed, tables_in, Rule, the_rules, IsReady, scan, alone, passes, show, AtMostOne, IsSame}
 use Rattle.sqlite.specs.Order.{Row}
-use Rattle.sqlite.specs.Term.{Term, col}
 use Rattle.sqlite.specs.Table.{Table}
-use Rattle.sqlite_schema.specs.declared.schema.Column.{Column}
 use Rattle.sqlite_value.specs.declared.keys.Order.{Order}
 use Rattle.sqlite_value.specs.Keys.{plain}
 use Rattle.sqlite.specs.Schema.{Schema}
-use Rattle.sqlite.specs.Effect.{Database, value_rows}
 use Rattle.sqlite.specs.Command.TheVariants.{Insert, Update, Delete, Select}
 use Rattle.sqlite.specs.Source.TheVariants.{Values}
 use Rattle.sqlite.specs.Query.{IsAnswer}
 use Rattle.sqlite.specs.Program.{overlay}
 use Rattle.sqlite_value.specs.declared.keys.Key.{Key}
-use Rattle.sqlite.specs.Given.{IsPlain}
-use Rattle.sqlite.specs.Listing.{understood, reads_listing}
 use Rattle.sqlite.specs.Rowids.TheVariants.{Chosen}
-use Rattle.sqlite.specs.Tree.{Trees, with_tree}
 use Rattle.sqlite.specs.Cast.{cast_all}
 use Rattle.sqlite.proofs.Callers.{command_of}
 use Rattle.sqlite_rules.specs.Cast.{cast_row}
 use Rattle.sqlite_rules.specs.Edit.{with_rowid}
-use Rattle.sqlite_trees.specs.Tree.{rowid}
 use Rattle.sqlite_trees.specs.View.{is_int}
-use Rattle.commands.specs.Tables.{Tables}
-use Rattle.table_words.specs.Schema.{the_tables, schema_with, plain_table}
-use Rattle.table_words.specs.Cells.{typed}
-use Rattle.table_words.specs.Typed.{tables_in, Rule, the_rules}
-use Rattle.table_words.specs.Steps.{IsReady}
-use Rattle.table_words.proofs.Plans.{scan, alone}
-use Rattle.table_words.proofs.ScanLemmas.{passes, show}
-use Rattle.table_words.proofs.KeyLemmas.{AtMostOne, IsSame}
 
 -- how a table is laid out
 pub record Layout : Type 0 where

@@ -1,9 +1,7 @@
 -- What comes of handing the rows of a query to a sink, one at a time.
 use Rattle.std.specs.Prelude.{◌≡◌, ◌⊎◌, ℕ, Bool, true, false, List, [], ◌∷◌, ◌++◌, map, Result, Ok, Err, IsTrue}
 use Rattle.std.specs.List.{AllByRecursion}
-use Rattle.sqlite_value.specs.Order.{Row}
-use Rattle.sqlite.specs.State.{State, Shown, Begins, IsUnchanged, IsRolledBack}
-use Rattle.table_words.specs.declared.error.TableFault.TheVariants.{Store, Foreign}
+use Rattle.keyed_rows.specs.Words.{Row, State, Shown, Begins, IsUnchanged, IsRolledBack, Store, Foreign}
 use Rattle.commands.specs.Sinks.{Reaches, ReachesWithin, StopsWithin}
 use Rattle.keyed_rows.specs.declared.each_fault.EachFault.{EachFault}
 use Rattle.keyed_rows.specs.declared.each_fault.EachFault.TheVariants.{Fault, Stopped}

@@ -1,18 +1,9 @@
 -- What the laws of a table say of its rows by their keys.
-use Rattle.std.proofs.Common.{◌≡◌, Bool, true, refl, ◌∙◌, List, sym, subst, Equal, filter}
-use Rattle.sqlite.specs.Effect.{Database}
+use Rattle.std.proofs.Common.{◌≡◌, Bool, true, ◌∙◌, List, sym, subst, Equal, filter}
+use Rattle.keyed_rows.specs.Words.{Database, rowid, value_cmp, all-slice_get, typed, AreRows, the_tables, IsReady, tables_in, are_rows}
 use Rattle.sqlite_rules.specs.Lists.{Has}
-use Rattle.sqlite_trees.specs.Tree.{rowid}
 use Rattle.sqlite.specs.Order.{Row}
-use Rattle.sqlite_value.specs.Order.{value_cmp}
-use Rattle.sqlite_keyed.proofs.ListLemmas.{all-slice_get}
-use Rattle.table_words.specs.Cells.{typed}
-use Rattle.table_words.specs.Found.{AreRows}
 use Rattle.table_words.specs.Rows.{IsRows}
-use Rattle.table_words.specs.Schema.{the_tables}
-use Rattle.table_words.specs.Steps.{IsReady}
-use Rattle.table_words.specs.Typed.{tables_in}
-use Rattle.table_words.proofs.KeyLemmas.{are_rows}
 use Rattle.keyed_rows.specs.Described.{Described, IsLawful, laid}
 
 module _ {X K : Type 0} (d : Described X K) (laws : IsLawful d) where

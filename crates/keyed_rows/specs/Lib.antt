@@ -1,3 +1,4 @@
+mod Words
 pub mod Writes
 pub mod Described
 pub mod Asks

@@ -1,13 +1,7 @@
 -- Tables whose rows are mapped to columns.
 use Rattle.std.specs.Prelude.{◌≡◌, ℕ, ◌+◌, Bool, true, nat_le, List, [], ◌∷◌, Option}
-use Rattle.sqlite_value.specs.declared.value.Value.TheVariants.{Null}
+use Rattle.keyed_rows.specs.Words.{Null, Term, lit, col, Column, Tables, Columns, Mapping, is_stored_row, stored_row, COLUMNS_MAX, tests_from}
 use Rattle.sqlite.specs.Order.{Row}
-use Rattle.sqlite.specs.Term.{Term, lit, col}
-use Rattle.sqlite_schema.specs.declared.schema.Column.{Column}
-use Rattle.commands.specs.Tables.{Tables}
-use Rattle.table_words.specs.Stored.{Columns, Mapping, is_stored_row, stored_row}
-use Rattle.table_words.specs.declared.chain.TheConstants.{COLUMNS_MAX}
-use Rattle.table_words.proofs.Plans.{tests_from}
 use Rattle.keyed_rows.specs.Described.{Described, Change, keyed}
 
 -- what there is to say of a table beside the columns of its rows

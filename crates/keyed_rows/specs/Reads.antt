@@ -1,17 +1,7 @@
 -- What a call that reads answers and leaves.
 use Rattle.std.specs.Prelude.{◌≡◌, ℕ, Bool, true, List, Vec, Result, OnOk, OnErr, IfOk, IfErr}
 use Rattle.std.specs.List.{AllByRecursion}
-use Rattle.sqlite_value.specs.Order.{Row}
-use Rattle.sqlite.specs.Given.{IsPlain}
-use Rattle.sqlite.specs.Listing.{understood}
-use Rattle.sqlite.specs.Tree.{Trees}
-use Rattle.sqlite.specs.State.{State, HasCleanDisk, Survives, KeepsCommit, IsUnchanged}
-use Rattle.commands.specs.Tables.{Tables}
-use Rattle.table_words.specs.Calls.{Reads, ShowsForeign}
-use Rattle.table_words.specs.Typed.{tables_in}
-use Rattle.table_words.specs.Steps.{IsReady, ChangesNone}
-use Rattle.table_words.specs.declared.error.TableFault.{TableFault}
-use Rattle.table_words.specs.declared.error.TableFault.TheVariants.{Foreign}
+use Rattle.keyed_rows.specs.Words.{Row, IsPlain, understood, Trees, State, HasCleanDisk, Survives, KeepsCommit, IsUnchanged, Tables, Reads, ShowsForeign, tables_in, IsReady, ChangesNone, TableFault, Foreign}
 
 -- a query ran, and its rows were read
 pub record Queried {X A : Type 0} (has : Row → Bool) (read : Row → X) (sql : List ℕ) (params : Row) (old new : State) (result : Result (Vec X A) TableFault) : Type 0 where

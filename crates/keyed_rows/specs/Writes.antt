@@ -1,15 +1,8 @@
 -- What a call that writes does.
 use Rattle.std.specs.Prelude.{◌≡◌, ◌≢◌, ℕ, Bool, List, [], ◌∷◌, false, IsTrue, if◌then◌else◌, Result, IfOk, OnOk, OnErr, IfErr}
-use Rattle.sqlite_value.specs.Order.{Row}
+use Rattle.keyed_rows.specs.Words.{Row, State, HasCleanDisk, Survives, KeepsCommit, Tables, IsReady, Goes, ChangesNone, AreTyped, Counts, TableFault, Foreign}
 use Rattle.sqlite.specs.Store.{Ghosts}
 use Rattle.sqlite.specs.Held.{Held, state}
-use Rattle.sqlite.specs.State.{State, HasCleanDisk, Survives, KeepsCommit}
-use Rattle.commands.specs.Tables.{Tables}
-use Rattle.table_words.specs.Steps.{IsReady, Goes, ChangesNone}
-use Rattle.table_words.specs.Typed.{AreTyped}
-use Rattle.table_words.specs.Calls.{Counts}
-use Rattle.table_words.specs.declared.error.TableFault.{TableFault}
-use Rattle.table_words.specs.declared.error.TableFault.TheVariants.{Foreign}
 
 -- As long as the disk is clean, a call that answers makes this of the tables, by its answer, where the books are ready.
 -- Whatever it answers, nothing is committed.

@@ -1,18 +1,6 @@
 -- Reading a label element by element gives what the definition of a label says.
-use Rattle.std.proofs.Common.{◌≡◌, ℕ, zero, suc, Bool, true, false, not, List, [], ◌∷◌, length, take, drop, ℤ, pos, Option, Some, None, Result, Ok, Err, refl, ap, sym, subst, ◌∙◌}
-use Rattle.std.specs.Prelude.{unwrap_or, ◌==◌, if◌then◌else◌, is_some, is_none}
-use Rattle.std.specs.Option.{option_or, ok_or}
-use Rattle.std.specs.Str.{all_ascii_digits}
-use Rattle.std.proofs.lemmas.Slice.Eq.{bytes_eq-Decides}
-use Rattle.values.specs.Values.{same_text, first_is}
-use Rattle.values.specs.Faults.{first_fault, sound_or, gtin_text_fault}
+use Rattle.label.proofs.Words.{◌≡◌, ℕ, zero, suc, Bool, true, false, not, List, [], ◌∷◌, length, take, drop, ℤ, pos, Option, Some, None, Result, Ok, Err, refl, ap, sym, subst, ◌∙◌, unwrap_or, ◌==◌, if◌then◌else◌, is_some, is_none, option_or, ok_or, all_ascii_digits, bytes_eq-Decides, same_text, first_is, first_fault, sound_or, gtin_text_fault, LabelParts, GTIN_IDENTIFIER, LOT_IDENTIFIER, EXPIRY_IDENTIFIER, SEPARATOR, is_listed, identifier_fault, expiry_text_fault, data_fault, lot_fault, up_to_separator, after_separator, after_data, elements_fault, rest_fault, has_bad_prefix, without_prefix, with_element, elements_parts, rest_parts, label_of, label_read, Step, identifier_at, new_field_read, label_found, elements_read, body_read, body_of, and_then, nothing_found, LabelFault, BadPrefix, UnknownIdentifier, CutShort, NotADigit, NoSuchDate, SeparatorMisplaced, Label, Found}
 use Rattle.label.specs.Expiry.{expiry_day, expiry_read}
-use Rattle.label.specs.Labels.{LabelParts, GTIN_IDENTIFIER, LOT_IDENTIFIER, EXPIRY_IDENTIFIER, SEPARATOR, is_listed, identifier_fault, expiry_text_fault, data_fault, lot_fault, up_to_separator, after_separator, after_data, elements_fault, rest_fault, has_bad_prefix, without_prefix, with_element, elements_parts, rest_parts, label_of, label_read}
-use Rattle.label.specs.Reading.{Step, identifier_at, new_field_read, label_found, elements_read, body_read, body_of, and_then, nothing_found}
-use Rattle.values.specs.declared.fault.LabelFault.{LabelFault}
-use Rattle.values.specs.declared.fault.LabelFault.TheVariants.{BadPrefix, UnknownIdentifier, CutShort, NotADigit, NoSuchDate, SeparatorMisplaced}
-use Rattle.label.specs.declared.gs1.Label.{Label}
-use Rattle.label.specs.declared.reader.Found.{Found}
 
 -- what was found is what the identifiers seen stand for
 pub record Tells (seen : List (List ℕ)) (found : Found) : Type 0 where

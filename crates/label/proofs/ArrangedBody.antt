@@ -1,11 +1,5 @@
 -- An arrangement of the three elements of a label has no fault, and says its parts.
-use Rattle.std.proofs.Common.{◌≡◌, ℕ, zero, suc, ◌<◌, true, false, List, [], ◌∷◌, ◌++◌, Some, None, refl, sym, ap, ◌∙◌, subst, arith, append_assoc}
-use Rattle.std.specs.Prelude.{IsTrue, ℤ, slice_index_or}
-use Rattle.std.specs.List.{list_all}
-use Rattle.std.proofs.lemmas.List.{append-nil}
-use Rattle.values.specs.Values.{is_gtin, is_lot_text, first_is}
-use Rattle.label.specs.Expiry.{expiry_day}
-use Rattle.label.specs.Labels.{SEPARATOR, GTIN_IDENTIFIER, LOT_IDENTIFIER, EXPIRY_IDENTIFIER, LabelParts, arrangements, is_listed, identifiers, rest_fault, rest_parts}
+use Rattle.label.proofs.Words.{◌≡◌, ℕ, zero, suc, ◌<◌, true, false, List, [], ◌∷◌, ◌++◌, Some, None, refl, sym, ap, ◌∙◌, subst, arith, append_assoc, IsTrue, ℤ, slice_index_or, list_all, append-nil, is_gtin, is_lot_text, first_is, expiry_day, SEPARATOR, GTIN_IDENTIFIER, LOT_IDENTIFIER, EXPIRY_IDENTIFIER, LabelParts, arrangements, is_listed, identifiers, rest_fault, rest_parts}
 use Rattle.label.proofs.LotEnds.{ended}
 use Rattle.label.proofs.Elements.{rest_fault-gtin, rest_fault-lot, rest_fault-expiry, rest_parts-gtin, rest_parts-lot, rest_parts-expiry}
 

@@ -1,8 +1,6 @@
 -- Worked examples of days and expiration dates.
-use Rattle.std.specs.Prelude.{◌≡◌, codes, refl, pos, negsuc, Some, None, Ok, Err, false}
-use Rattle.label.specs.Days.{day_number, is_date, date_of, day_text, parsed_day}
+use Rattle.label.proofs.Words.{◌≡◌, codes, refl, pos, negsuc, Some, None, Ok, Err, false, day_number, is_date, date_of, day_text, parsed_day, CutShort, NotADigit, NoSuchDate}
 use Rattle.label.specs.Expiry.{full_year, expiry_day, expiry_read, expiry_text}
-use Rattle.values.specs.declared.fault.LabelFault.TheVariants.{CutShort, NotADigit, NoSuchDate}
 use Rattle.label.proofs.OnLiterals.{dates_on_literals}
 
 -- the day numbers of the ends of the ranges, of the epoch and of a day between

@@ -1,18 +1,11 @@
 -- Day numbers and dates are inverse to each other from 1951-01-01 to 2249-12-31.
-use Rattle.std.proofs.Common.{◌≡◌, ℕ, zero, suc, ◌&&◌, ◌+◌, ◌-◌, ◌<◌, ◌≤◌, inl, inr, Bool, true, false, IsTrue, nat_lt, nat_le, refl, sym, subst, ap, ◌∙◌, arith, ℤ, pos, negsuc, ◌+ℤ◌, ◌≤ℤ◌, unsigned_abs, int_le, Decides, Option, None}
-use Rattle.std.specs.Prelude.{if◌then◌else◌}
-use Rattle.std.proofs.lemmas.Bool.{cond-false, and_right, lt-leb, true_from_ne_false, cases_lt, cases_order, cond_both, ltb-true, ltb-false, and_parts, and_from, leb-true, le-leb}
-use Rattle.std.proofs.lemmas.Bool.Decides.{nat_tests, same_from_decides}
-use Rattle.jiff_core.specs.Calendar.{days_in_month, days_in_year, days_of_months, day_of_year, day_count, IsCivilDate}
-use Rattle.jiff_core.proofs.CalendarLemmas.{days_from_civil-day_count, days_in_month_bounds, days_of_months_more, days_of_months_all, days_of_months-zero, day_count-day_of_year, day_count-next_year, day_count-later_year, day_count-lt_year, day_count-lt_month, day_count-day}
+use Rattle.label.proofs.Words.{◌≡◌, ℕ, zero, suc, ◌&&◌, ◌+◌, ◌-◌, ◌<◌, ◌≤◌, inl, inr, Bool, true, false, IsTrue, nat_lt, nat_le, refl, sym, subst, ap, ◌∙◌, arith, ℤ, pos, negsuc, ◌+ℤ◌, ◌≤ℤ◌, unsigned_abs, int_le, Decides, Option, None, if◌then◌else◌, cond-false, and_right, lt-leb, true_from_ne_false, cases_lt, cases_order, cond_both, ltb-true, ltb-false, and_parts, and_from, leb-true, le-leb, nat_tests, same_from_decides, days_in_month, days_in_year, days_of_months, day_of_year, day_count, IsCivilDate, days_from_civil-day_count, days_in_month_bounds, days_of_months_more, days_of_months_all, days_of_months-zero, day_count-day_of_year, day_count-next_year, day_count-later_year, day_count-lt_year, day_count-lt_month, day_count-day, IsYmd, epoch_day, checked, is_between}
 use Rattle.jiff_core.proofs.MarchLemmas.{day_count-early}
 use Rattle.jiff_core.proofs.SignedLemmas.{signed_arith, one_part}
 use borrow.Author.Differences.{up, down, le-true, le-false}
 use Rattle.jiff.specs.Types.{Date as CivilDate}
-use Rattle.jiff.specs.Words.{IsYmd, epoch_day}
 use Rattle.jiff.proofs.Family.{epoch_day_injective}
 use Rattle.jiff.proofs.OnLiterals.{jiff_on_literals}
-use Rattle.values.specs.Values.{checked, is_between}
 use Rattle.label.specs.Days.{is_day, is_business_day, day_number, is_date, Date, date_in_year, date_after, date_of, dated_day}
 
 -- the date is in the year y and has n days of that year before it

@@ -1,14 +1,7 @@
 -- The texts of days: reading and writing are inverse to each other.
-use Rattle.std.proofs.Common.{◌≡◌, ℕ, ◌+◌, ◌-◌, ◌*◌, ◌/◌, ◌%◌, ◌<◌, ◌≤◌, Bool, true, false, ◌&&◌, ◌==◌, cond, IsTrue, List, [], ◌∷◌, ◌++◌, length, get_or, drop, map, refl, sym, ap, ◌∙◌, arith, ℤ, Option, Some, None, IfSome, pos, nat_le}
-use Rattle.std.specs.List.{range_with_len}
+use Rattle.label.proofs.Words.{◌≡◌, ℕ, ◌+◌, ◌-◌, ◌*◌, ◌/◌, ◌%◌, ◌<◌, ◌≤◌, Bool, true, false, ◌&&◌, ◌==◌, cond, IsTrue, List, [], ◌∷◌, ◌++◌, length, slice_index_or as get_or, drop, map, refl, sym, ap, ◌∙◌, arith, ℤ, Option, Some, None, IfSome, pos, nat_le, range_with_len, all_ascii_digits, and_parts, and_from, cond-true, leb-true, eqb-true, nat_tests, days_in_month_bounds, checked, is_day, day_number, is_date, Date, date_of, dated_day, last_digits, day_text, two_digits, is_day_form, parsed_day}
 use Rattle.std.specs.Char.{is_ascii_digit}
-use Rattle.std.specs.Str.{all_ascii_digits}
-use Rattle.std.proofs.lemmas.Bool.{and_parts, and_from, cond-true, leb-true, eqb-true}
-use Rattle.std.proofs.lemmas.Bool.Decides.{nat_tests}
 use Rattle.std.proofs.lemmas.List.FromFn.{fill_by_all}
-use Rattle.jiff_core.proofs.CalendarLemmas.{days_in_month_bounds}
-use Rattle.values.specs.Values.{checked}
-use Rattle.label.specs.Days.{is_day, day_number, is_date, Date, date_of, dated_day, last_digits, day_text, two_digits, is_day_form, parsed_day}
 use Rattle.label.proofs.DayNumbers.{date_of_is, is_day-day_number, day_number-date_of, is_date-date_of, date_of-day_number}
 
 -- a text of n bytes, byte for byte
@@ -27,9 +20,6 @@ is_ascii_digit-range c h = grind (arith, nat_tests)
 
 pub is_ascii_digit-last : (x : ℕ) → is_ascii_digit (48 + x % 10) ≡ true
 is_ascii_digit-last x = grind (arith, nat_tests)
-
-pub two_digits-last_digits : (x : ℕ) (rest : List ℕ) → x < 100 → two_digits (last_digits 2 x ++ rest) ≡ x
-two_digits-last_digits x rest h = omega arith
 
 pub last_digits-two_digits : (a b : ℕ) (rest : List ℕ) → is_ascii_digit a ≡ true → is_ascii_digit b ≡ true → last_digits 2 (two_digits (a ∷ b ∷ rest)) ≡ a ∷ b ∷ []
 last_digits-two_digits a b rest p q =

@@ -1,18 +1,7 @@
 -- A label read element by element: each element makes the rest shorter, and more turns than needed change nothing.
-use Rattle.std.proofs.Common.{◌≡◌, ℕ, zero, suc, ◌+◌, ◌≤◌, true, false, List, [], ◌∷◌, length, take, drop, ℤ, Some, None, Result, Ok, Err, refl, ap, subst, ◌∙◌, arith}
-use Rattle.std.proofs.lemmas.List.{length-drop}
-use Rattle.std.specs.Prelude.{unwrap_or, cond, nat_lt, if◌then◌else◌, ◌==◌}
-use Rattle.std.specs.List.{position_or_len}
-use Rattle.std.proofs.lemmas.Bool.Decides.{nat_tests}
-use Rattle.values.specs.declared.fault.LabelFault.{LabelFault}
-use Rattle.values.specs.declared.fault.LabelFault.TheVariants.{IdentifierRepeated}
-use Rattle.label.specs.declared.reader.Found.{Found}
+use Rattle.label.proofs.Words.{◌≡◌, ℕ, zero, suc, ◌+◌, ◌≤◌, true, false, List, [], ◌∷◌, length, take, drop, ℤ, Some, None, Result, Ok, Err, refl, ap, subst, ◌∙◌, arith, length-drop, unwrap_or, cond, nat_lt, if◌then◌else◌, ◌==◌, position_or_len, nat_tests, LabelFault, IdentifierRepeated, Found, sound_or, gtin_text_fault, SEPARATOR, lot_fault, up_to_separator, Step, and_then, identifier_at, has_found, field_read, new_field_read, element_read, elements_read, label_found, expiry_read}
 use Rattle.label.specs.declared.reader.Identifier.{Identifier}
 use Rattle.label.specs.declared.reader.Identifier.TheVariants.{ForGtin, ForLot, ForExpiry}
-use Rattle.values.specs.Faults.{sound_or, gtin_text_fault}
-use Rattle.label.specs.Labels.{SEPARATOR, lot_fault, up_to_separator}
-use Rattle.label.specs.Reading.{Step, and_then, identifier_at, has_found, field_read, new_field_read, element_read, elements_read, label_found}
-use Rattle.label.specs.Expiry.{expiry_read}
 
 pub first_or_all : (n len : ℕ) → n ≤ len → unwrap_or (cond (nat_lt n len) (Some n) None) len ≡ n
 first_or_all n len h =
@@ -95,9 +84,3 @@ elements_read-turn today found (c ∷ cs) step h e =
     let few : length step.rest ≤ length cs = subst (LeavesAtMost (length cs)) e (element_read-at_most today found c cs) in
     ap (λ r. and_then r (λ next. elements_read (length cs) today next.found next.rest)) e
     ∙ elements_read-enough (length cs) (length step.rest) today step.found step.rest few (omega arith)
-
--- a fault ends the reading
-pub elements_read-fault : (today : ℤ) (found : Found) (s : List ℕ) (fault : LabelFault) → 1 ≤ length s → element_read today found s ≡ Err fault
-    → elements_read (length s) today found s ≡ Err fault
-elements_read-fault today found [] fault h e = absurd (omega arith)
-elements_read-fault today found (c ∷ cs) fault h e = ap (λ r. and_then r (λ next. elements_read (length cs) today next.found next.rest)) e

@@ -1,16 +1,7 @@
 -- The elements of a label, one at a time.
-use Rattle.std.proofs.Common.{◌≡◌, ℕ, zero, suc, ◌<◌, ◌≤◌, Bool, false, List, [], ◌∷◌, ◌++◌, length, take, drop, Option, Some, None, refl, ap, ◌∙◌, arith}
-use Rattle.std.specs.Prelude.{IsTrue, ℤ}
-use Rattle.std.specs.Option.{option_or}
-use Rattle.std.proofs.lemmas.List.{take_at, drop_at, length-drop}
-use Rattle.values.specs.Values.{is_gtin, is_lot_text}
-use Rattle.values.specs.Faults.{first_fault, gtin_text_fault}
-use Rattle.label.specs.Expiry.{expiry_day}
-use Rattle.label.specs.Labels.{GTIN_IDENTIFIER, LOT_IDENTIFIER, EXPIRY_IDENTIFIER, is_listed, identifier_fault, expiry_text_fault, lot_fault, data_fault, after_data, elements_fault, rest_fault, with_element, elements_parts, rest_parts}
+use Rattle.label.proofs.Words.{◌≡◌, ℕ, zero, suc, ◌<◌, ◌≤◌, Bool, false, List, [], ◌∷◌, ◌++◌, length, take, drop, Option, Some, None, refl, ap, ◌∙◌, arith, IsTrue, ℤ, option_or, take_at, drop_at, length-drop, is_gtin, is_lot_text, first_fault, gtin_text_fault, expiry_day, GTIN_IDENTIFIER, LOT_IDENTIFIER, EXPIRY_IDENTIFIER, is_listed, identifier_fault, expiry_text_fault, lot_fault, data_fault, after_data, elements_fault, rest_fault, with_element, elements_parts, rest_parts, LabelFault, IdentifierRepeated}
 use Rattle.label.proofs.FaultOrder.{gtin_text_fault-none, gtin_length, lot_text_fault-none, lot_characters, six_digits, expiry_text_fault-none}
 use Rattle.label.proofs.LotEnds.{ended, up_to_separator-lot, after_separator-lot, not_trailing}
-use Rattle.values.specs.declared.fault.LabelFault.{LabelFault}
-use Rattle.values.specs.declared.fault.LabelFault.TheVariants.{IdentifierRepeated}
 
 -- FUEL
 after_data_within : (id s : List ℕ) → length (after_data id s) ≤ length s

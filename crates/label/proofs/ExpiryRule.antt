@@ -1,16 +1,7 @@
 -- The date rule of labels: the formula and the relation agree, and what is written is read again.
-use Rattle.std.proofs.Common.{◌≡◌, ℕ, ◌+◌, ◌/◌, ◌%◌, ◌<◌, ◌≤◌, inl, inr, Bool, true, false, not, ◌&&◌, ◌==◌, ◌↔◌, cond, IsTrue, List, [], ◌∷◌, ◌++◌, length, get_or, drop, refl, sym, ap, ◌∙◌, arith, ℤ, pos, negsuc, nat_le, Option, Some, None, Result, Ok, Err}
-use Rattle.std.specs.Str.{all_ascii_digits}
-use Rattle.std.proofs.lemmas.Bool.{cases_eq, and_parts, and_from, cond-true, cond-false, cond_both, leb-true, le-leb, eqb-true, eq-eqb, ne_eqb}
-use Rattle.std.proofs.lemmas.Bool.Decides.{nat_tests}
-use Rattle.jiff_core.specs.Calendar.{days_in_month}
-use Rattle.jiff_core.proofs.CalendarLemmas.{days_in_month_bounds}
-use Rattle.label.specs.Days.{is_day, is_business_day, day_number, is_date, date_of, year_of_day, dated_day, last_digits, two_digits}
+use Rattle.label.proofs.Words.{◌≡◌, ℕ, ◌+◌, ◌/◌, ◌%◌, ◌<◌, ◌≤◌, inl, inr, Bool, true, false, not, ◌&&◌, ◌==◌, ◌↔◌, cond, IsTrue, List, [], ◌∷◌, ◌++◌, length, slice_index_or as get_or, drop, refl, sym, ap, ◌∙◌, arith, ℤ, pos, negsuc, nat_le, Option, Some, None, Result, Ok, Err, all_ascii_digits, cases_eq, and_parts, and_from, cond-true, cond-false, cond_both, leb-true, le-leb, eqb-true, eq-eqb, ne_eqb, nat_tests, days_in_month, days_in_month_bounds, is_day, is_business_day, day_number, is_date, date_of, year_of_day, dated_day, last_digits, two_digits, ok_or, LabelFault, CutShort, NotADigit, NoSuchDate}
 use Rattle.label.specs.Expiry.{full_year, day_in_month, expiry_day, IsExpiry, expiry_read, expiry_text}
 use Rattle.label.proofs.DayNumbers.{date_of_is, is_date-parts, is_date-true, is_day-day_number, is_business_day-day_number, day_number-date_of, is_date-date_of}
-use Rattle.std.specs.Option.{ok_or}
-use Rattle.values.specs.declared.fault.LabelFault.{LabelFault}
-use Rattle.values.specs.declared.fault.LabelFault.TheVariants.{CutShort, NotADigit, NoSuchDate}
 use Rattle.label.proofs.DayTexts.{listed, some_cond, two_are_digits, two_digits-bound, is_ascii_digit-last}
 
 -- a business day is a day of the years 2000 to 2199
@@ -123,15 +114,6 @@ expiry_day-from_IsExpiry today s n h i =
     expiry_at today s i.year i.month i.day i.six i.digits (full_year_only now (two_digits s) i.year low i.year_from i.year_to i.year_ends) (sym i.month_is)
     (day_by_cases i.year i.month (two_digits (drop 4 s)) i.day i.day_is i.day_last) date
     ∙ ap Some (sym i.is)
-
--- every expiry day of a business day lies from 1951-01-01 to 2249-12-31
-pub expiry_is_day : (today : ℤ) (s : List ℕ) (n : ℤ) → IsTrue (is_business_day today) → expiry_day today s ≡ Some n → IsTrue (is_day n)
-expiry_is_day today s n h e =
-    let i = IsExpiry-from_expiry_day today s n h e in
-    let business = business_is today h in
-    let date = is_date-true i.year i.month i.day (record { month_low = i.month_from; month_high = i.month_to; day_low = i.day_from; day_high = i.day_to }) in
-    ap is_day i.is ∙ is_day-day_number i.year i.month i.day date
-    ∙ and_from _ _ (le-leb 1951 i.year (omega (arith, i.year_from, business.year_low))) (le-leb i.year 2249 (omega (arith, i.year_to, business.year_high)))
 
 in_years : (y m d : ℕ) → 1951 ≤ y → y ≤ 2249 → dated_day y m d ≡ cond (is_date y m d) (Some (day_number y m d)) None
 in_years y m d low high =

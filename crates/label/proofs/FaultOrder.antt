@@ -1,18 +1,6 @@
 -- A text has no fault as a value exactly if it keeps the rule of that value.
-use Rattle.std.proofs.Common.{◌≡◌, ℕ, ◌<◌, Bool, true, false, not, ◌&&◌, List, [], ◌∷◌, length, Option, Some, None, refl, sym, subst, arith, ltb}
-use Rattle.std.specs.Prelude.{◌==◌, ◌%◌, slice_index, IsTrue, ℤ, is_none}
-use Rattle.std.specs.Option.{option_or}
-use Rattle.std.specs.List.{list_all}
-use Rattle.std.specs.Str.{all_ascii_digits}
-use Rattle.std.proofs.lemmas.Bool.{and_parts, eqb-true}
+use Rattle.label.proofs.Words.{◌≡◌, ℕ, ◌<◌, Bool, true, false, not, ◌&&◌, List, [], ◌∷◌, length, Option, Some, None, refl, sym, subst, arith, nat_lt as ltb, ◌==◌, ◌%◌, slice_index, IsTrue, ℤ, is_none, option_or, list_all, all_ascii_digits, and_parts, eqb-true, nat_tests, is_gtin, is_lot_text, is_digit, is_set_82, is_between, first_is, weighted_sum, first_fault, gtin_text_fault, lot_text_fault, expiry_day, expiry_text_fault, LabelFault, CutShort, NotADigit, CheckDigit, VariableMeasure, LotEmpty, LotTooLong, LotCharacter, NoSuchDate}
 use Rattle.std.proofs.lemmas.Option.{cond_some}
-use Rattle.std.proofs.lemmas.Bool.Decides.{nat_tests}
-use Rattle.values.specs.Values.{is_gtin, is_lot_text, is_digit, is_set_82, is_between, first_is, weighted_sum}
-use Rattle.values.specs.Faults.{first_fault, gtin_text_fault, lot_text_fault}
-use Rattle.label.specs.Expiry.{expiry_day}
-use Rattle.label.specs.Labels.{expiry_text_fault}
-use Rattle.values.specs.declared.fault.LabelFault.{LabelFault}
-use Rattle.values.specs.declared.fault.LabelFault.TheVariants.{CutShort, NotADigit, CheckDigit, VariableMeasure, LotEmpty, LotTooLong, LotCharacter, NoSuchDate}
 
 pub both_none : {X : Type 0} (a b : Option X) → option_or a b ≡ None → (a ≡ None) × (b ≡ None)
 both_none None b e = (refl, e)

@@ -1,18 +1,8 @@
 -- A text without a fault begins with a sound element, or is at its end.
-use Rattle.std.proofs.Common.{◌≡◌, ℕ, ◌+◌, Bool, true, false, not, List, [], ◌∷◌, ◌++◌, length, take, drop, Some, None, refl, sym, ap, ◌∙◌, subst, arith, ⊎_elim, ◌⊎◌, inl, inr}
-use Rattle.std.specs.Prelude.{◌==◌, IsTrue, ℤ}
-use Rattle.std.specs.List.{list_all}
-use Rattle.std.proofs.lemmas.Bool.{or_cases, false≢true, not-false}
-use Rattle.std.proofs.lemmas.List.{take-append-drop}
-use Rattle.std.proofs.lemmas.Slice.Eq.{bytes_eq-Decides}
-use Rattle.values.specs.Values.{same_text, is_gtin, is_lot_text, first_is}
-use Rattle.values.specs.Faults.{first_fault, gtin_text_fault, lot_text_fault}
-use Rattle.label.specs.Expiry.{expiry_day}
-use Rattle.label.specs.Labels.{SEPARATOR, GTIN_IDENTIFIER, LOT_IDENTIFIER, EXPIRY_IDENTIFIER, is_listed, identifiers, identifier_fault, expiry_text_fault, up_to_separator, after_separator, lot_fault, data_fault, after_data, rest_fault}
+use Rattle.label.proofs.Words.{◌≡◌, ℕ, ◌+◌, Bool, true, false, not, List, [], ◌∷◌, ◌++◌, length, take, drop, Some, None, refl, sym, ap, ◌∙◌, subst, arith, ⊎_elim, ◌⊎◌, inl, inr, ◌==◌, IsTrue, ℤ, list_all, or_cases, false≢true, not-false, take-append-drop, bytes_eq-Decides, same_text, is_gtin, is_lot_text, first_is, first_fault, gtin_text_fault, lot_text_fault, expiry_day, SEPARATOR, GTIN_IDENTIFIER, LOT_IDENTIFIER, EXPIRY_IDENTIFIER, is_listed, identifiers, identifier_fault, expiry_text_fault, up_to_separator, after_separator, lot_fault, data_fault, after_data, rest_fault, UnknownIdentifier, CutShort, IdentifierRepeated, IdentifierMissing, SeparatorMisplaced}
 use Rattle.label.proofs.FaultOrder.{both_none, none_first, is_gtin-from_none, is_lot_text-from_none, expiry_day-from_none}
 use Rattle.label.proofs.LotEnds.{ended, lot_and_rest}
 use Rattle.label.proofs.Elements.{rest_fault-next}
-use Rattle.values.specs.declared.fault.LabelFault.TheVariants.{UnknownIdentifier, CutShort, IdentifierRepeated, IdentifierMissing, SeparatorMisplaced}
 
 -- what a text without a fault begins with, the identifiers before it being seen
 pub data FirstElement (today : ℤ) (seen : List (List ℕ)) (s : List ℕ) : Type 0 where

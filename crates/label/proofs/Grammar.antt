@@ -1,9 +1,5 @@
 -- A text has no fault exactly if it is a label.
-use Rattle.std.proofs.Common.{◌≡◌, ℕ, List, [], ◌++◌, Some, None, sym, ap, ◌∙◌, subst}
-use Rattle.std.specs.Prelude.{ℤ}
-use Rattle.label.specs.Expiry.{expiry_day}
-use Rattle.label.specs.Labels.{LabelParts, IsLabel, rest_fault, rest_parts, has_bad_prefix, without_prefix, label_fault, label_parts}
-use Rattle.values.specs.declared.fault.LabelFault.TheVariants.{BadPrefix}
+use Rattle.label.proofs.Words.{◌≡◌, ℕ, List, [], ◌++◌, Some, None, sym, ap, ◌∙◌, subst, ℤ, expiry_day, LabelParts, IsLabel, rest_fault, rest_parts, has_bad_prefix, without_prefix, label_fault, label_parts, BadPrefix}
 use Rattle.label.proofs.SoundBody.{body_from_sound}
 use Rattle.label.proofs.ArrangedBody.{reads_arrangement, begins_otherwise}
 use Rattle.label.proofs.Prefixes.{past_prefix, prefix_of, label_fault-good_prefix, good_prefix}

@@ -1,3 +1,4 @@
+mod Words
 pub mod DayNumbers
 pub mod DayTexts
 pub mod ExpiryRule

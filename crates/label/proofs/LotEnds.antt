@@ -1,12 +1,5 @@
 -- Where a lot ends: at the first separator, or with the text.
-use Rattle.std.proofs.Common.{◌≡◌, ℕ, suc, ◌+◌, Bool, true, false, List, [], ◌∷◌, ◌++◌, length, drop, refl, sym, ap, ◌∙◌, subst, arith, ⊎_elim, length-append, add-one}
-use Rattle.std.specs.Prelude.{◌==◌}
-use Rattle.std.specs.List.{list_all, position_or_len}
-use Rattle.std.proofs.lemmas.Bool.{and_parts, eqb-true, eqb-false, ne_eqb, cases_lt, false≢true}
-use Rattle.std.proofs.lemmas.List.{append-nil, take_at, take_all, drop_all}
-use Rattle.std.proofs.lemmas.List.Sums.{split_at_first, passes_at_first}
-use Rattle.values.specs.Values.{is_set_82}
-use Rattle.label.specs.Labels.{SEPARATOR, up_to_separator, after_separator}
+use Rattle.label.proofs.Words.{◌≡◌, ℕ, suc, ◌+◌, Bool, true, false, List, [], ◌∷◌, ◌++◌, length, drop, refl, sym, ap, ◌∙◌, subst, arith, ⊎_elim, length-append, add-one, ◌==◌, list_all, position_or_len, and_parts, eqb-true, eqb-false, ne_eqb, cases_lt, false≢true, append-nil, take_at, take_all, drop_all, split_at_first, passes_at_first, is_set_82, SEPARATOR, up_to_separator, after_separator}
 
 -- a lot's text, with what follows it: the separator stands between them exactly if something follows
 abbrev pub ended : List ℕ → List ℕ

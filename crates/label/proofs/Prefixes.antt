@@ -1,12 +1,5 @@
 -- The prefix of a label.
-use Rattle.std.proofs.Common.{◌≡◌, ℕ, zero, suc, ◌<◌, Bool, true, false, List, [], ◌∷◌, ◌++◌, take, Option, Some, None, refl, sym, subst, arith, ⊎_elim}
-use Rattle.std.specs.Prelude.{if◌then◌else◌, ℤ, Contains, slice_index_or}
-use Rattle.std.proofs.lemmas.Bool.{or_cases, false≢true, not-false}
-use Rattle.std.proofs.lemmas.List.{take-append-drop}
-use Rattle.std.proofs.lemmas.Slice.Eq.{bytes_eq-Decides}
-use Rattle.values.specs.Values.{same_text, first_is}
-use Rattle.label.specs.Labels.{prefixes, is_listed, rest_fault, has_bad_prefix, without_prefix, label_fault}
-use Rattle.values.specs.declared.fault.LabelFault.{LabelFault}
+use Rattle.label.proofs.Words.{◌≡◌, ℕ, zero, suc, ◌<◌, Bool, true, false, List, [], ◌∷◌, ◌++◌, take, Option, Some, None, refl, sym, subst, arith, ⊎_elim, if◌then◌else◌, ℤ, Contains, slice_index_or, or_cases, false≢true, not-false, take-append-drop, bytes_eq-Decides, same_text, first_is, prefixes, is_listed, rest_fault, has_bad_prefix, without_prefix, label_fault, LabelFault}
 
 -- what is left of a text with a prefix
 pub past_prefix : (prefix body : List ℕ) → first_is 93 body ≡ false → (k : ℕ) → k < 4 → slice_index_or prefixes k prefix ≡ prefix

@@ -1,12 +1,5 @@
 -- What a text reads as: `Ok` exactly at the labels, with their values, and `Err` exactly at the faults.
-use Rattle.std.proofs.Common.{◌≡◌, ℕ, List, [], Option, Some, None, Ok, Err, refl, sym, ap, ◌∙◌, subst, arith, append_assoc}
-use Rattle.std.specs.Prelude.{IsTrue, ℤ, ◌↔◌}
-use Rattle.values.specs.Values.{is_gtin, is_lot_text}
-use Rattle.values.specs.Faults.{sound_or}
-use Rattle.label.specs.Expiry.{expiry_day}
-use Rattle.label.specs.Labels.{LabelParts, IsLabelOf, label_fault, label_parts, label_of, label_read, label_text}
-use Rattle.values.specs.declared.fault.LabelFault.{LabelFault}
-use Rattle.label.specs.declared.gs1.Label.{Label}
+use Rattle.label.proofs.Words.{◌≡◌, ℕ, List, [], Option, Some, None, Ok, Err, refl, sym, ap, ◌∙◌, subst, arith, append_assoc, IsTrue, ℤ, ◌↔◌, is_gtin, is_lot_text, sound_or, expiry_day, LabelParts, IsLabelOf, label_fault, label_parts, label_of, label_read, label_text, LabelFault, Label}
 use Rattle.label.proofs.Grammar.{label_has_no_fault, IsLabel-from_none}
 
 sound_parts : {X : Type 0} (o : Option LabelFault) (x y : X) → sound_or o x ≡ Ok y → (o ≡ None) × (x ≡ y)
@@ -39,12 +32,6 @@ reads_exactly_labels today s label = (IsLabelOf-from_read today s label, label_r
 -- and as a fault exactly if it has that fault
 pub reads_exactly_faults : (today : ℤ) (s : List ℕ) (f : LabelFault) → (label_read today s ≡ Err f) ↔ (label_fault today s ≡ Some f)
 reads_exactly_faults today s f = (fault_parts (label_fault today s) (label_of today (label_parts s)) f, λ h. ap (λ o. sound_or o (label_of today (label_parts s))) h)
-
--- a text is a label of one set of values only
-pub one_label : (today : ℤ) (s : List ℕ) (a b : Label) → IsLabelOf today s a → IsLabelOf today s b → a ≡ b
-one_label today s a b is_a is_b =
-    let reads = λ (label : Label) (is : IsLabelOf today s label). (sound_parts (label_fault today s) (label_of today (label_parts s)) label (label_read-label today s label is)).1 in
-    sym (reads a is_a) ∙ reads b is_b
 
 -- what is written of values that keep their rules is read back as these values
 pub label_read-label_text : (today : ℤ) (gtin lot yymmdd : List ℕ) (day : ℤ) → IsTrue (is_gtin gtin) → IsTrue (is_lot_text lot) → expiry_day today yymmdd ≡ Some day

@@ -1,12 +1,5 @@
 -- A text whose elements have no fault is an arrangement of the three elements of a label.
-use Rattle.std.proofs.Common.{◌≡◌, ℕ, Bool, true, false, ◌&&◌, List, [], ◌∷◌, ◌++◌, Some, None, refl, sym, ap, ◌∙◌, arith, ⊎_elim, ◌⊎◌, inl, inr, append_assoc}
-use Rattle.std.specs.Prelude.{IsTrue, ℤ, Contains}
-use Rattle.std.specs.List.{list_all}
-use Rattle.std.proofs.lemmas.Bool.{and_parts, both_ways, false≢true}
-use Rattle.std.proofs.lemmas.List.{append-nil}
-use Rattle.values.specs.Values.{is_gtin, is_lot_text}
-use Rattle.label.specs.Expiry.{expiry_day}
-use Rattle.label.specs.Labels.{SEPARATOR, GTIN_IDENTIFIER, LOT_IDENTIFIER, EXPIRY_IDENTIFIER, LabelParts, arrangements, is_listed, identifiers, rest_fault}
+use Rattle.label.proofs.Words.{◌≡◌, ℕ, Bool, true, false, ◌&&◌, List, [], ◌∷◌, ◌++◌, Some, None, refl, sym, ap, ◌∙◌, arith, ⊎_elim, ◌⊎◌, inl, inr, append_assoc, IsTrue, ℤ, Contains, list_all, and_parts, both_ways, false≢true, append-nil, is_gtin, is_lot_text, expiry_day, SEPARATOR, GTIN_IDENTIFIER, LOT_IDENTIFIER, EXPIRY_IDENTIFIER, LabelParts, arrangements, is_listed, identifiers, rest_fault}
 use Rattle.label.proofs.LotEnds.{ended}
 use Rattle.label.proofs.FirstElement.{FirstElement, first_element}
 use Rattle.label.proofs.FirstElement.FirstElement.{nothing, gtin, lot, expiry}

@@ -1,10 +1,6 @@
 -- Worked examples of labels.
-use Rattle.std.specs.Prelude.{◌≡◌, ℕ, List, [], ◌∷◌, ◌++◌, codes, refl, ℤ, pos, Some, true, Ok, Err}
-use Rattle.values.specs.Values.{is_gtin, is_lot_text}
-use Rattle.label.specs.Days.{day_number}
-use Rattle.label.specs.Labels.{SEPARATOR, label_fault, label_parts, label_read, label_text}
+use Rattle.label.proofs.Words.{◌≡◌, ℕ, List, [], ◌∷◌, ◌++◌, codes, refl, ℤ, pos, Some, true, Ok, Err, is_gtin, is_lot_text, day_number, SEPARATOR, label_fault, label_parts, label_read, label_text, BadPrefix, UnknownIdentifier, CutShort, NotADigit, CheckDigit, VariableMeasure, LotEmpty, LotTooLong, LotCharacter, NoSuchDate, IdentifierRepeated, IdentifierMissing, SeparatorMisplaced}
 use Rattle.label.proofs.OnLiterals.{dates_on_literals}
-use Rattle.values.specs.declared.fault.LabelFault.TheVariants.{BadPrefix, UnknownIdentifier, CutShort, NotADigit, CheckDigit, VariableMeasure, LotEmpty, LotTooLong, LotCharacter, NoSuchDate, IdentifierRepeated, IdentifierMissing, SeparatorMisplaced}
 
 -- 2026-05-04
 abbrev today : ℤ

@@ -1,5 +1,5 @@
 -- A port that was served over books whose acts are kept in a file.
-use Rattle.line_work.proofs.Words.{◌≡◌, ◌⊎◌, Bool, ℕ, List, [], refl, sym, subst, inl, inr, Ok, Err, arith, ℤ, Option, Result, zip, Ghosts, StoreGhosts, Trees, Held, state, Act, IsHistory, AreBooks, KeepsActs, AreOldest, ActsFile, Fault, IsOneFurther, LeavesBooks, step_adds, leaves_none, KeepsLogged, sent_by, AreKept, KeepsServed, Stopped, Log, Unkept, logged_as, fault_of_acts, keeps_acts, leaves_acts, HasActs, LeavesActs, StopLeaves, IsServedBeside, IsServeEnd, KeptActs}
+use Rattle.line_work.proofs.Words.{◌⊎◌, Bool, ℕ, List, [], refl, sym, subst, inl, inr, Ok, Err, arith, ℤ, Option, Result, zip, Ghosts, StoreGhosts, Trees, Held, state, Act, IsHistory, AreBooks, KeepsActs, AreOldest, ActsFile, Fault, IsOneFurther, LeavesBooks, step_adds, leaves_none, KeepsLogged, sent_by, AreKept, KeepsServed, Stopped, Log, Unkept, logged_as, fault_of_acts, keeps_acts, leaves_acts, HasActs, LeavesActs, StopLeaves, IsServedBeside, IsServeEnd, KeptActs}
 use Rattle.line_work.specs.Serving.{kept_of}
 use Rattle.line_work.proofs.FileKept.{has_acts, has_then_leaves, oldest_then, stop_leaves}
 

@@ -1,5 +1,5 @@
 -- What taking in lines of a history comes to.
-use Rattle.line_work.proofs.Words.{◌≡◌, ◌⊎◌, ◌++◌, ℕ, List, [], Ok, Err, Result, Option, Some, None, refl, sym, ap, subst, ◌∙◌, inl, inr, ℤ, IfSome, IfErr, reader_remaining, reader_capacity, reader_buffer, reader_inner, BufReader, prepend_known, StoreGhosts as Ghosts, Trees, state, Survives, Act, IsHistory, Connected, AreBooks, HoldsBooks, IsClean, LeavesOnly, MayLeave, OfText, IsOfRows, IsApplied, LeavesOneOf, Applied, NotApplied, Fault, Io, fault_of, told_of, IsEndTold, Went, IsUnread, IsTakenIn, IsNotTried, IsTextApplied, IsFileApplied, LeavesApplied, KeepsMore}
+use Rattle.line_work.proofs.Words.{◌≡◌, ◌⊎◌, ◌++◌, ℕ, List, [], Ok, Err, Result, Option, Some, None, refl, ap, subst, ◌∙◌, inl, inr, ℤ, IfSome, IfErr, reader_remaining, reader_capacity, reader_buffer, reader_inner, BufReader, prepend_known, StoreGhosts as Ghosts, Trees, state, Survives, Act, IsHistory, Connected, AreBooks, HoldsBooks, IsClean, LeavesOnly, MayLeave, OfText, IsOfRows, IsApplied, LeavesOneOf, Applied, NotApplied, Fault, fault_of, told_of, IsEndTold, Went, IsUnread, IsTakenIn, IsTextApplied, IsFileApplied, KeepsMore}
 use Rattle.applies.specs.Taken.{IsTaken}
 use Rattle.command_line.specs.declared.fault.Fault.TheVariants.{Store}
 

@@ -61,7 +61,6 @@ pub use Rattle.house.specs.House.{IsOneFurther, LeavesBooks}
 pub use Rattle.house.proofs.Adding.{step_adds}
 pub use Rattle.house.proofs.Stepping.{leaves_none}
 pub use Rattle.command_line.specs.declared.fault.Fault.{Fault}
-pub use Rattle.command_line.specs.declared.fault.Fault.TheVariants.{Io}
 pub use Rattle.command_line.specs.declared.running.Work.{Work}
 pub use Rattle.command_line.specs.declared.running.Work.TheVariants.{Make, Serve, Import, Card, Notice, History, Audit, Apply}
 pub use Rattle.service.specs.Failing.{IsCleanBefore, fault_of_books}
@@ -73,7 +72,7 @@ pub use Rattle.service.specs.declared.serve.Stopped.TheVariants.{Log, Unkept}
 pub use Rattle.service.proofs.Failing.{of_books, foreign_there}
 pub use Rattle.service.proofs.Importing.{file_adds, leaves_on, keeps_file}
 pub use Rattle.service.proofs.Serving.{logged_as, io_alone}
-pub use Rattle.line_work.specs.Applying.{fault_of, told_of, IsEndTold, Went, IsUnread, IsTakenIn, IsNotTried, IsTextApplied, IsFileApplied, LeavesApplied, KeepsMore}
+pub use Rattle.line_work.specs.Applying.{fault_of, told_of, IsEndTold, Went, IsUnread, IsTakenIn, IsTextApplied, IsFileApplied, KeepsMore}
 pub use Rattle.line_work.specs.Auditing.{IsUnaudited}
 pub use Rattle.line_work.specs.Beside.{FitsFile, IsOpenedBeside, IsNotOpenedBeside, IsRefusedBeside, IsOwnBeside}
 pub use Rattle.line_work.specs.Faults.{fault_of_acts}

@@ -1,13 +1,7 @@
 -- What taking in lines of a history does to the books, and what is told of it.
 use Rattle.std.specs.Prelude.{◌≡◌, ◌⊎◌, ◌++◌, ℕ, ℤ, List, codes, decimal, Option, IfSome, IfErr, Result, Ok, Err}
 use Rattle.std.specs.Io.KnownBytes.{Appends}
-use Rattle.sqlite_trees.specs.declared.store.Store.{Ghosts}
-use Rattle.sqlite_trees.specs.Tree.{Trees}
-use Rattle.sqlite.specs.Held.{Held, state}
-use Rattle.machine.specs.Acts.{Act}
-use Rattle.machine.specs.Once.{IsHistory}
-use Rattle.store.specs.Connected.{Connected}
-use Rattle.store.specs.Books.{AreBooks, KeepsBooks, HoldsBooks, LeavesOnly, MayLeave}
+use Rattle.line_work.specs.Words.{StoreGhosts as Ghosts, Trees, Held, state, Act, IsHistory, Connected, AreBooks, KeepsBooks, HoldsBooks, LeavesOnly, MayLeave, Fault, Apply, Io, Store, Foreign}
 use Rattle.applies.specs.Going.{OfText, IsOfRows}
 use Rattle.applies.specs.Applying.{IsApplied, LeavesOneOf}
 use Rattle.applies.specs.Taken.{IsTaken}
@@ -15,8 +9,6 @@ use Rattle.applies.specs.declared.applied.Applied.{Applied}
 use Rattle.applies.specs.declared.applied.NotApplied.{NotApplied}
 use Rattle.applies.specs.declared.applied.NotApplied.TheVariants as misfit
 use Rattle.command_line.specs.declared.apply_fault.ApplyFault.TheVariants as apply
-use Rattle.command_line.specs.declared.fault.Fault.{Fault}
-use Rattle.command_line.specs.declared.fault.Fault.TheVariants.{Apply, Io, Store, Foreign}
 
 -- what is printed
 abbrev pub applied_line : Applied → List ℕ

@@ -1,26 +1,16 @@
 -- What the line does that holds the books against their acts, and what it tells.
 use Rattle.std.specs.Prelude.{◌≡◌, ◌⊎◌, ℕ, ℤ, List, ◌++◌, codes, decimal, Option, Result, Ok, Err}
 use Rattle.std.specs.Io.KnownBytes.{Appends}
-use Rattle.sqlite_trees.specs.declared.store.Store.{Ghosts}
-use Rattle.sqlite.specs.Held.{Held, state}
+use Rattle.line_work.specs.Words.{StoreGhosts as Ghosts, Held, state, Act, IsHistory, Leftover, Found, HasSchema, IsOfNone, AreRowsAt, IsCleanLeft, RowKey, Repeat, Fault, Audit, Io, Store, Foreign, IsOfBooks, IsCleanBefore}
 use Rattle.sqlite.specs.State.{State}
 use Rattle.label.specs.Days.{day_text}
-use Rattle.machine.specs.Acts.{Act}
-use Rattle.machine.specs.Once.{IsHistory}
-use Rattle.books_schema.specs.declared.ready_connection.Leftover.{Leftover}
 use Rattle.books_schema.specs.declared.ready_connection.Leftover.TheVariants.{Connection}
-use Rattle.store.specs.Opening.{Found, HasSchema, IsOfNone, AreRowsAt, IsCleanLeft}
-use Rattle.whole_tables.specs.declared.key.RowKey.{RowKey}
-use Rattle.whole_tables.specs.declared.key.RowKey.TheVariants.{Repeat}
 use Rattle.whole_tables.specs.Differing.{table_of}
 use Rattle.audits.specs.Auditing.{IsFinding, IsLeftAlone, AreNotRaised}
 use Rattle.audits.specs.declared.finding.Finding.{Finding}
 use Rattle.audits.specs.declared.finding.Finding.TheVariants.{Sound, Differs, Untyped, Unnumbered, Unspelled, Refused}
 use Rattle.command_line.specs.declared.audit_fault.AuditFault.{AuditFault}
 use Rattle.command_line.specs.declared.audit_fault.AuditFault.TheVariants as audit
-use Rattle.command_line.specs.declared.fault.Fault.{Fault}
-use Rattle.command_line.specs.declared.fault.Fault.TheVariants.{Audit, Io, Store, Foreign}
-use Rattle.service.specs.Failing.{IsOfBooks, IsCleanBefore}
 use Rattle.line_work.specs.Rows.{table_text, key_text}
 
 -- what is printed of books whose rows are those of so many acts, begun on this day

@@ -1,18 +1,11 @@
 -- A file of acts that is opened beside their books, whatever the file has.
 use Rattle.std.specs.Prelude.{◌≡◌, ◌≢◌, ◌⊎◌, ◌≤◌, ℕ, ℤ, List, [], ◌++◌, length, Result, Err, IsTrue}
-use Rattle.sqlite_disk.specs.declared.Disk.{Ghosts}
-use Rattle.sqlite_trees.specs.declared.store.Store.{Ghosts as StoreGhosts}
-use Rattle.sqlite.specs.Held.{Held, state}
-use Rattle.machine.specs.Acts.{Act}
-use Rattle.store.specs.Books.{KeepsBooks, LeavesOnly}
+use Rattle.line_work.specs.Words.{Ghosts, StoreGhosts, Held, state, Act, KeepsBooks, LeavesOnly, ActsFile, ActsFault, Fault}
 use Rattle.histories.specs.Reading.{IsLine}
 use Rattle.applies.specs.Begun.{BegunOn, FitsLine}
 use Rattle.acts_files.specs.Faults.{IsNoMisfit}
 use Rattle.acts_files.specs.Opened.{IsOwn, IsOpened, IsNotOpened, LeavesOldest}
-use Rattle.acts_files.specs.declared.acts_file.ActsFile.{ActsFile}
-use Rattle.acts_files.specs.declared.fault.ActsFault.{ActsFault}
 use Rattle.acts_files.specs.declared.opening.NotOpened.{NotOpened}
-use Rattle.command_line.specs.declared.fault.Fault.{Fault}
 use Rattle.line_work.specs.Faults.{fault_of_acts}
 
 -- The file is that of these acts: it has the lines of the oldest, begun on any day on which the acts can have begun, and behind them at

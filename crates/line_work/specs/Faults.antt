@@ -1,9 +1,7 @@
 -- Why the acts are not kept, as a line tells it.
-use Rattle.acts_files.specs.declared.fault.ActsFault.{ActsFault}
+use Rattle.line_work.specs.Words.{ActsFault, Fault, Apply, Acts, Foreign, Store}
 use Rattle.acts_files.specs.declared.fault.ActsFault.TheVariants as acts
 use Rattle.command_line.specs.declared.apply_fault.ApplyFault.TheVariants as apply
-use Rattle.command_line.specs.declared.fault.Fault.{Fault}
-use Rattle.command_line.specs.declared.fault.Fault.TheVariants.{Apply, Acts, Foreign, Store}
 use Rattle.house.specs.declared.keeping.KeepFault.{KeepFault}
 use Rattle.house.specs.declared.keeping.KeepFault.TheVariants as keep
 

@@ -1,18 +1,8 @@
 -- What importing a goods-in file does to the books, and what the file of their acts keeps.
 use Rattle.std.specs.Prelude.{◌≡◌, ◌⊎◌, ℕ, ℤ, List, Option, Result}
 use Rattle.std.proofs.Common.{inl, inr}
-use Rattle.sqlite_disk.specs.declared.Disk.{Ghosts}
-use Rattle.sqlite_trees.specs.declared.store.Store.{Ghosts as StoreGhosts}
-use Rattle.sqlite.specs.Held.{Held, state}
-use Rattle.machine.specs.Acts.{Act}
-use Rattle.machine.specs.Once.{IsHistory, acts_after_file}
-use Rattle.store.specs.Connected.{Connected}
-use Rattle.store.specs.Books.{KeepsBooks}
+use Rattle.line_work.specs.Words.{Ghosts, StoreGhosts, Held, state, Act, IsHistory, acts_after_file, Connected, KeepsBooks, AreOldest, ActsFile, Fault, IsImported}
 use Rattle.store.specs.Filing.{rows_of}
-use Rattle.acts_files.specs.KeptActs.{AreOldest}
-use Rattle.acts_files.specs.declared.acts_file.ActsFile.{ActsFile}
-use Rattle.command_line.specs.declared.fault.Fault.{Fault}
-use Rattle.service.specs.Importing.{IsImported}
 use Rattle.line_work.specs.Kept.{HasActs, LeavesActs, StopLeaves}
 use Rattle.line_work.specs.Beside.{IsOpenedBeside, IsRefusedBeside}
 

@@ -1,15 +1,7 @@
 -- What a file keeps of the acts of books. `g` is what the file's type means by what a read returns and by what a stop may leave.
 use Rattle.std.specs.Prelude.{◌≡◌, ℕ, ℤ, List, ◌++◌, Bool, IsTrue}
-use Rattle.sqlite_disk.specs.declared.Disk.{Ghosts}
-use Rattle.sqlite_trees.specs.declared.store.Store.{Ghosts as StoreGhosts}
-use Rattle.sqlite_trees.specs.Tree.{Trees}
-use Rattle.sqlite.specs.Held.{Held, state}
-use Rattle.machine.specs.Acts.{Act}
-use Rattle.machine.specs.Once.{IsHistory}
+use Rattle.line_work.specs.Words.{Ghosts, StoreGhosts, Trees, Held, state, Act, IsHistory, AreBooks, HasText, KeepsActs, BeginsWithActs, HasAdded, HasOldest, HoldsText}
 use Rattle.histories.specs.Text.{history_text}
-use Rattle.store.specs.Books.{AreBooks}
-use Rattle.acts_files.specs.Kept.{HasText}
-use Rattle.acts_files.specs.KeptActs.{KeepsActs, BeginsWithActs, HasAdded, HasOldest, HoldsText}
 use Rattle.line_work.specs.declared.kept_acts.KeptActs.{KeptActs}
 
 -- the file keeps these acts, begun on this day

@@ -1,19 +1,7 @@
 -- What a line does that has a disk for the acts, or none.
 use Rattle.std.specs.Prelude.{◌≡◌, ℕ, ℤ, List, Bool, Option, Some, None, Result, IfErr}
-use Rattle.sqlite_disk.specs.declared.Disk.{Ghosts}
-use Rattle.sqlite_trees.specs.declared.store.Store.{Ghosts as StoreGhosts}
-use Rattle.sqlite.specs.Held.{Held, state}
-use Rattle.machine.specs.Acts.{Act}
-use Rattle.machine.specs.Once.{IsHistory}
-use Rattle.store.specs.Books.{HoldsBooks, LeavesOnly}
-use Rattle.store.specs.Connected.{Connected}
-use Rattle.store.specs.Opening.{AreFoundRows}
+use Rattle.line_work.specs.Words.{Ghosts, StoreGhosts, Held, state, Act, IsHistory, HoldsBooks, LeavesOnly, Connected, AreFoundRows, LosesNoLine, Fault, Io, told_port, KeepsFile, IsImported}
 use Rattle.texts.specs.Writing.{Writes}
-use Rattle.acts_files.specs.Kept.{LosesNoLine}
-use Rattle.command_line.specs.declared.fault.Fault.{Fault}
-use Rattle.command_line.specs.declared.fault.Fault.TheVariants.{Io}
-use Rattle.service.specs.Serving.{told_port}
-use Rattle.service.specs.Importing.{KeepsFile, IsImported}
 use Rattle.line_work.specs.Serving.{IsServeEnd}
 use Rattle.line_work.specs.Importing.{IsImportEnd, KeepsMore}
 

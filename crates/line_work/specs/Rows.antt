@@ -1,7 +1,6 @@
 -- The text of a row of the books: the name of its table, and the columns of its primary key.
 use Rattle.std.specs.Prelude.{ℕ, List, ◌++◌, map, nat_lt, ◌&&◌, if◌then◌else◌, codes, decimal}
-use Rattle.whole_tables.specs.declared.key.RowKey.{RowKey}
-use Rattle.whole_tables.specs.declared.key.RowKey.TheVariants.{Meta, Item, Least, Bin, Lot, Recall, Stock, Order, Urgent, Line, Staged, Reserved, Shipment, Shipline, Card, Repeat}
+use Rattle.line_work.specs.Words.{RowKey, Meta, Item, Least, Bin, Lot, Recall, Stock, Order, Urgent, Line, Staged, Reserved, Shipment, Shipline, Card, Repeat}
 use Rattle.whole_tables.specs.declared.key.TableName.{TableName}
 use Rattle.whole_tables.specs.Family.{described}
 

@@ -1,12 +1,6 @@
 -- What serving a port does to the books, and what the file of their acts keeps.
 use Rattle.std.specs.Prelude.{◌≡◌, ◌⊎◌, ℕ, ℤ, List, Bool, Option, Result, Ok, Err}
-use Rattle.sqlite_disk.specs.declared.Disk.{Ghosts}
-use Rattle.sqlite_trees.specs.declared.store.Store.{Ghosts as StoreGhosts}
-use Rattle.sqlite.specs.Held.{Held}
-use Rattle.machine.specs.Acts.{Act}
-use Rattle.acts_files.specs.declared.acts_file.ActsFile.{ActsFile}
-use Rattle.command_line.specs.declared.fault.Fault.{Fault}
-use Rattle.service.specs.Serving.{KeepsLogged}
+use Rattle.line_work.specs.Words.{Ghosts, StoreGhosts, Held, Act, ActsFile, Fault, KeepsLogged}
 use Rattle.service.specs.Kept.{AreKept, end_of, sent_till}
 use Rattle.service.specs.declared.serve.Stopped.{Stopped}
 use Rattle.service.specs.declared.serve.Stopped.TheVariants.{Log, Unkept}

@@ -1,23 +1,12 @@
 -- What a line's work does, whichever it is.
 use Rattle.std.specs.Prelude.{◌≡◌, ◌≢◌, ◌↔◌, ℕ, ℤ, List, [], Bool, false, Option, Result, Ok, IsErr, IsErrAnd, IsSome, IsTrue}
-use Rattle.sqlite_disk.specs.declared.Disk.{Ghosts as DiskGhosts}
-use Rattle.sqlite_trees.specs.declared.store.Store.{Ghosts}
-use Rattle.sqlite.specs.Held.{Held, state}
-use Rattle.machine.specs.Acts.{Act}
-use Rattle.machine.specs.Once.{IsHistory}
+use Rattle.line_work.specs.Words.{Ghosts as DiskGhosts, StoreGhosts as Ghosts, Held, state, Act, IsHistory, Leftover, KeepsBooks, IsOfNone, AreFoundRows, Fault, Foreign, IsUnmade, IsUnopened, KeepsLogged, sent_by}
 use Rattle.table_words.specs.Schema.{schema_0}
-use Rattle.books_schema.specs.declared.ready_connection.Leftover.{Leftover}
-use Rattle.store.specs.Books.{KeepsBooks}
-use Rattle.store.specs.Opening.{IsOfNone, AreFoundRows}
 use Rattle.histories.specs.Printed.{IsHistoryPrinted}
-use Rattle.command_line.specs.declared.fault.Fault.{Fault}
-use Rattle.command_line.specs.declared.fault.Fault.TheVariants.{Foreign}
 use Rattle.command_line.specs.declared.running.Work.{Work}
 use Rattle.command_line.specs.declared.running.Work.TheVariants.{Make, Serve, Import, Card, Notice, History, Audit, Apply}
-use Rattle.service.specs.Failing.{IsUnmade, IsUnopened}
 use Rattle.line_work.specs.Auditing.{IsAuditTold, IsLeftAs, IsUnaudited}
 use Rattle.line_work.specs.Applying.{KeepsMore, LeavesApplied}
-use Rattle.service.specs.Serving.{KeepsLogged, sent_by}
 use Rattle.service.specs.Printing.{LeavesSheet}
 use Rattle.line_work.specs.Lines.{IsImportedWith, IsImportToldIf, IsPortToldIf, IsServedWith, KeepsImported, OverRows}
 use Rattle.service.specs.declared.books_lines.Sheet.TheVariants as sheet

@@ -1,6 +1,6 @@
 -- What tests on texts, lots and truth values say.
 use borrow.Author.Tests.{ltb-false}
-use Rattle.machine.proofs.Words.{◌≡◌, ℕ, ◌≤◌, Bool, true, false, ◌&&◌, not, List, refl, ap, sym, subst, ◌==◌, ◌||◌, nat_lt, Option, Some, is_some, bytes_decides, equal_texts, eqb-true, same_text, LotId, is_lot}
+use Rattle.machine.proofs.Words.{◌≡◌, ℕ, ◌≤◌, Bool, true, false, ◌&&◌, not, List, refl, ap, sym, subst, ◌==◌, ◌||◌, nat_lt, Option, Some, bytes_decides, equal_texts, eqb-true, same_text, LotId, is_lot}
 
 -- Truth values
 
@@ -96,6 +96,3 @@ is_lot_item l m e = (and_both (same_text l.gtin m.gtin) (same_text l.lot m.lot) 
 
 pub some_one : {X : Type 0} (a b : X) → ◌≡◌ {A = Option X} (Some a) (Some b) → a ≡ b
 some_one a b e = cc
-
-pub is_some_of : {X : Type 0} (x : Option X) (a : X) → x ≡ Some a → is_some x ≡ true
-is_some_of x a e = ap is_some e

@@ -1,5 +1,6 @@
 -- What holds of every history: balances, lots, orders, plans and runs.
 pub mod Accepted
+pub mod ActFacts
 pub mod LeastDays
 pub mod OlderBooks
 pub mod Cells

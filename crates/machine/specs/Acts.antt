@@ -1,8 +1,7 @@
 -- The acts: accepted commands, each with its key, the newest first. All else is computed from them.
 use Rattle.std.specs.Prelude.{ℕ, ◌+◌, List, [], ◌∷◌, length, Option}
 use Rattle.std.specs.List.{cons_option}
-use Rattle.commands.specs.declared.key.Key.{Key}
-use Rattle.commands.specs.declared.command.Command.{Command}
+use Rattle.machine.specs.Words.{Key, Command}
 
 pub record Act : Type 0 where
   pub key : Key

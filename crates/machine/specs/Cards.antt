@@ -1,11 +1,7 @@
 -- The stock card of a lot: one line for each act that received, wrote on, wrote off or shipped units of it.
 use Rattle.std.specs.Prelude.{ℕ, List, [], ◌∷◌, ◌++◌, codes, decimal, flat_map, ℤ, pos, neg_ℤ}
-use Rattle.values.specs.declared.lot.LotId.{LotId}
-use Rattle.commands.specs.declared.key.Key.{Key}
+use Rattle.machine.specs.Words.{LotId, Key, CardKind, Receipt, WriteOn, WrittenOff, Shipment, CardRow}
 use Rattle.commands.specs.declared.key.Key.TheVariants.{Plain, Line}
-use Rattle.commands.specs.declared.rows.CardKind.{CardKind}
-use Rattle.commands.specs.declared.rows.CardKind.TheVariants.{Receipt, WriteOn, WriteOff as WrittenOff, Shipment}
-use Rattle.commands.specs.declared.rows.CardRow.{CardRow}
 use Rattle.machine.specs.Acts.{Act}
 use Rattle.machine.specs.Postings.{Place, Supplier, InBin, Stage, Shipped, WriteOff, Posting, balance, in_house, is_lot}
 use Rattle.machine.specs.Standing.{today}

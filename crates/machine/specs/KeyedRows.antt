@@ -1,8 +1,7 @@
 -- Rows under keys: a list that has, of a look-up, the rows that are needed.
 use Rattle.std.specs.Prelude.{◌≡◌, ℕ, Bool, true, not, ◌&&◌, List, [], ◌∷◌, find, Option, Some}
 use Rattle.std.specs.List.{list_any}
-use Rattle.values.specs.Values.{same_text}
-use Rattle.values.specs.declared.lot.LotId.{LotId}
+use Rattle.machine.specs.Words.{same_text, LotId}
 use Rattle.machine.specs.Postings.{is_lot}
 
 abbrev pub no_two : {R : Type 0} → (R → R → Bool) → List R → Bool

@@ -1,19 +1,9 @@
 -- Laws over all histories and all runs.
 use Rattle.std.specs.Prelude.{◌≡◌, ◌≢◌, ℕ, ◌+◌, ◌≤◌, Bool, true, false, not, ◌==◌, ◌&&◌, ◌||◌, if◌then◌else◌, List, [], ◌∷◌, ◌++◌, map, Some, ℤ, unsigned_abs}
 use Rattle.std.specs.List.{list_any, list_all, IsDistinct}
-use Rattle.values.specs.Values.{same_text}
-use Rattle.values.specs.declared.lot.LotId.{LotId}
-use Rattle.commands.specs.Lists.{total}
+use Rattle.machine.specs.Words.{same_text, LotId, total, Key, Pick, Ship, Recall, ItemRow, CardKind, Receipt, WriteOn, WrittenOff, Shipment, CardRow, Row, plan_rows}
 use Rattle.commands.specs.Cards.{rest_after}
-use Rattle.commands.specs.declared.key.Key.{Key}
-use Rattle.commands.specs.declared.command.Command.TheVariants.{Pick, Ship, Recall}
 use Rattle.commands.specs.declared.command.Picking.{Picking}
-use Rattle.commands.specs.declared.rows.ItemRow.{ItemRow}
-use Rattle.commands.specs.declared.rows.CardKind.{CardKind}
-use Rattle.commands.specs.declared.rows.CardKind.TheVariants.{Receipt, WriteOn, WriteOff as WrittenOff, Shipment}
-use Rattle.commands.specs.declared.rows.CardRow.{CardRow}
-use Rattle.plan.specs.declared.Row.{Row}
-use Rattle.plan.specs.Overlap.{plan_rows}
 use Rattle.machine.specs.Acts.{Act}
 use Rattle.machine.specs.Postings.{Place, Supplier, WriteOff, of_item, is_lot, is_shipment, units_in, units_out, balance}
 use Rattle.machine.specs.Standing.{KnownLot, lot_known, is_shippable, bins, Placed, orders, order_named, shipments}

@@ -1,8 +1,6 @@
 -- The postings of the acts.
 use Rattle.std.specs.Prelude.{ℕ, suc, ◌+◌, ◌-◌, not, ◌&&◌, ◌==◌, if◌then◌else◌, List, [], ◌∷◌, ◌++◌, filter, flat_map, ℤ, pos, negsuc}
-use Rattle.values.specs.declared.lot.LotId.{LotId}
-use Rattle.commands.specs.declared.command.Command.{Command}
-use Rattle.commands.specs.declared.command.Command.TheVariants.{Receive, Move, Count, Adjust, Pick, Unpick, Ship, Hold, Recall, OpenDay, Least}
+use Rattle.machine.specs.Words.{LotId, Command, Receive, Move, Count, Adjust, Pick, Unpick, Ship, Hold, Recall, OpenDay, Least}
 use Rattle.machine.specs.Acts.{Act, next_number}
 use Rattle.machine.specs.Postings.{Place, Supplier, InBin, Stage, Shipped, WriteOff, Posting, balance, is_bin, is_lot, is_stage}
 use Rattle.machine.specs.Standing.{RETURNS, KnownLot, Placed, lots, orders, is_shippable, shipments_so_far}

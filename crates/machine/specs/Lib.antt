@@ -1,3 +1,4 @@
+mod Words
 pub mod Acts
 pub mod Postings
 pub mod Standing

@@ -1,13 +1,8 @@
 -- A key acts once: what a request does, the first time and when it comes again.
 use Rattle.std.specs.Prelude.{◌≡◌, ℕ, ◌+◌, Bool, if◌then◌else◌, List, [], ◌∷◌, Option, Some, None, ℤ, IsTrue}
-use Rattle.values.specs.Values.{same_text}
+use Rattle.machine.specs.Words.{same_text, key_text, spelling, Key, Refusal, KeyUsed, Command}
 use Rattle.label.specs.Days.{is_business_day}
 use Rattle.commands.specs.Sound.{is_sound, is_sound_key}
-use Rattle.commands.specs.Spelling.{key_text, spelling}
-use Rattle.commands.specs.declared.key.Key.{Key}
-use Rattle.commands.specs.declared.refusal.Refusal.{Refusal}
-use Rattle.commands.specs.declared.refusal.Refusal.TheVariants.{KeyUsed}
-use Rattle.commands.specs.declared.command.Command.{Command}
 pub use Rattle.commands.specs.Keys.{is_key_of}
 use Rattle.machine.specs.Acts.{Act}
 use Rattle.machine.specs.Verdict.{verdict}

@@ -1,16 +1,11 @@
 -- Balances by their names, demands, supplies and the plan of an item.
 use Rattle.std.specs.Prelude.{ℕ, ◌-◌, Bool, true, false, not, ◌&&◌, ◌||◌, ◌==◌, nat_lt, if◌then◌else◌, List, ◌++◌, map, reverse, flat_map, filter, Option, Some, None, ℤ, int_lt}
 use Rattle.std.specs.List.{list_all}
-use Rattle.values.specs.Values.{same_text}
-use Rattle.values.specs.declared.lot.LotId.{LotId}
-use Rattle.commands.specs.Lists.{total, in_order}
-use Rattle.commands.specs.declared.command.OrderLine.{OrderLine}
+use Rattle.machine.specs.Words.{same_text, LotId, total, in_order, OrderLine, Row, plan_rows, reserved_in, reserved_for}
 use Rattle.commands.specs.declared.rows.OrderState.{OrderState}
 use Rattle.commands.specs.declared.rows.OrderState.TheVariants.{Open, Done, Cancelled}
 use Rattle.plan.specs.declared.Demand.{Demand}
 use Rattle.plan.specs.declared.Supply.{Supply}
-use Rattle.plan.specs.declared.Row.{Row}
-use Rattle.plan.specs.Overlap.{plan_rows, reserved_in, reserved_for}
 use Rattle.machine.specs.Acts.{Act}
 use Rattle.machine.specs.Postings.{Place, InBin, Posting, balance, is_bin, is_lot, any_lot, of_item, is_stage, is_shipped_to, in_house}
 use Rattle.machine.specs.Standing.{KnownLot, lots_of, lot_known, is_shippable, is_store_bin, Placed, orders, order_named, lines_of, is_cancelled}

@@ -1,8 +1,6 @@
 -- Places, postings and balances.
 use Rattle.std.specs.Prelude.{ℕ, ◌-◌, Bool, true, false, ◌&&◌, ◌==◌, if◌then◌else◌, List}
-use Rattle.values.specs.Values.{same_text}
-use Rattle.values.specs.declared.lot.LotId.{LotId}
-use Rattle.commands.specs.Lists.{total}
+use Rattle.machine.specs.Words.{same_text, LotId, total}
 
 -- where units may be. What of a lot is on the stage of an order is staged for the order's line of the lot's item.
 pub data Place : Type 0 where

@@ -1,13 +1,6 @@
 -- What queries are answered: a view, or the first refusal.
 use Rattle.std.specs.Prelude.{ℕ, if◌then◌else◌, List, Option, Some, None, Result, Ok, Err, ℤ}
-use Rattle.values.specs.declared.lot.LotId.{LotId}
-use Rattle.commands.specs.declared.refusal.Refusal.{Refusal}
-use Rattle.commands.specs.declared.refusal.Refusal.TheVariants.{UnknownItem, UnknownLot, UnknownOrder, NoNotice}
-use Rattle.commands.specs.declared.views.StockView.{StockView}
-use Rattle.commands.specs.declared.views.OrderView.{OrderView}
-use Rattle.commands.specs.declared.views.ShortView.{ShortView}
-use Rattle.commands.specs.declared.views.CardView.{CardView}
-use Rattle.commands.specs.declared.views.NoticeView.{NoticeView}
+use Rattle.machine.specs.Words.{LotId, Refusal, UnknownItem, UnknownLot, UnknownOrder, NoNotice, StockView, OrderView, ShortView, CardView, NoticeView}
 use Rattle.machine.specs.Acts.{Act}
 use Rattle.machine.specs.Standing.{lot_known, is_recalled, order_named}
 use Rattle.machine.specs.Tables.{item_row}

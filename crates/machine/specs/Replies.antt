@@ -1,11 +1,9 @@
 -- The replies to accepted commands.
 use Rattle.std.specs.Prelude.{ℕ, List, ◌∷◌, Option, Some, None, ℤ, pos, ◌-ℤ◌}
-use Rattle.commands.specs.Lists.{total}
+use Rattle.machine.specs.Words.{total, Command, Count, Adjust, Order, Ship, Hold, Recall, OpenDay, Least, Urgent}
 use Rattle.commands.specs.Replies.{field_text, further_text, reply_text}
 use Rattle.commands.specs.declared.replies.ReplyField.{ReplyField}
 use Rattle.commands.specs.declared.replies.ReplyField.TheVariants.{ChangedBy, Returned, ShipmentNumber, UnitsShort}
-use Rattle.commands.specs.declared.command.Command.{Command}
-use Rattle.commands.specs.declared.command.Command.TheVariants.{Count, Adjust, Order, Ship, Hold, Recall, OpenDay, Least, Urgent}
 use Rattle.machine.specs.Acts.{Act, next_number}
 use Rattle.machine.specs.Standing.{shipments_so_far}
 use Rattle.machine.specs.Ledger.{postings_of}

@@ -2,8 +2,7 @@
 use Rattle.std.specs.Prelude.{◌≡◌, ℕ, Bool, true, nat_le, List, ℤ}
 use Rattle.std.specs.List.{list_all}
 use Rattle.commands.specs.Schemas.{without_least, with_least, without_urgents}
-use Rattle.commands.specs.declared.command.Command.{Command}
-use Rattle.commands.specs.declared.command.Command.TheVariants.{Least, Urgent}
+use Rattle.machine.specs.Words.{Command, Least, Urgent}
 use Rattle.machine.specs.Acts.{Act}
 use Rattle.machine.specs.Tables.{tables_of}
 

@@ -1,10 +1,7 @@
 -- Which items an act touches: all others keep their postings, their plan and their reservations.
 use Rattle.std.specs.Prelude.{◌≡◌, ℕ, Bool, true, false, not, ◌&&◌, ◌||◌, ◌==◌, List, ◌∷◌, ℤ}
 use Rattle.std.specs.List.{list_any}
-use Rattle.values.specs.Values.{same_text}
-use Rattle.values.specs.declared.lot.LotId.{LotId}
-use Rattle.commands.specs.declared.command.Command.{Command}
-use Rattle.commands.specs.declared.command.Command.TheVariants.{Item, Bin, Receive, Move, Count, Adjust, Order, Cancel, Pick, Unpick, Ship, Hold, Release, Recall, OpenDay, Least, Urgent}
+use Rattle.machine.specs.Words.{same_text, LotId, Command, Item, Bin, Receive, Move, Count, Adjust, Order, Cancel, Pick, Unpick, Ship, Hold, Release, Recall, OpenDay, Least, Urgent}
 use Rattle.machine.specs.Acts.{Act}
 use Rattle.machine.specs.Postings.{of_item}
 use Rattle.machine.specs.Standing.{has_line, lots_of, orders, is_shippable}

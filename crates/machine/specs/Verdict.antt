@@ -1,15 +1,9 @@
 -- Whether a command is refused.
 use Rattle.std.specs.Prelude.{ℕ, suc, ◌+◌, Bool, false, not, ◌&&◌, ◌||◌, ◌==◌, nat_lt, nat_le, if◌then◌else◌, List, [], ◌∷◌, length, Option, Some, None, ℤ, pos, negsuc, int_le}
 use Rattle.std.specs.List.{list_any}
-use Rattle.values.specs.Values.{same_text}
-use Rattle.values.specs.declared.lot.LotId.{LotId}
+use Rattle.machine.specs.Words.{same_text, LotId, OrderLine, Refusal, ActsFull, UnknownItem, UnknownBin, UnknownLot, UnknownOrder, NoSuchLine, ItemExists, BinExists, OrderExists, ItemTwice, OtherExpiry, LotRecalled, LotExpired, TooFewDays, LotHeld, LotNotHeld, AlreadyRecalled, NotStoreBin, OrderClosed, StillStaged, NothingStaged, DayNotLater, NotInBin, OverReserved, OverStaged, SameBin, OverUnits, OverOrdered, Command, Item, Bin, Receive, Move, Count, Adjust, Order, Cancel, Pick, Unpick, Ship, Hold, Release, Recall, OpenDay, Least, Urgent}
 use Rattle.commands.specs.declared.limits.TheConstants.{ITEMS_MAX, BINS_MAX, UNITS_MAX, OPEN_MAX, ACTS_MAX}
-use Rattle.commands.specs.declared.command.OrderLine.{OrderLine}
 use Rattle.commands.specs.declared.command.NewOrder.{NewOrder}
-use Rattle.commands.specs.declared.refusal.Refusal.{Refusal}
-use Rattle.commands.specs.declared.refusal.Refusal.TheVariants.{ActsFull, UnknownItem, UnknownBin, UnknownLot, UnknownOrder, NoSuchLine, ItemExists, BinExists, OrderExists, ItemTwice, OtherExpiry, LotRecalled, LotExpired, TooFewDays, LotHeld, LotNotHeld, AlreadyRecalled, NotStoreBin, OrderClosed, StillStaged, NothingStaged, DayNotLater, NotInBin, OverReserved, OverStaged, SameBin, OverUnits, OverOrdered}
-use Rattle.commands.specs.declared.command.Command.{Command}
-use Rattle.commands.specs.declared.command.Command.TheVariants.{Item, Bin, Receive, Move, Count, Adjust, Order, Cancel, Pick, Unpick, Ship, Hold, Release, Recall, OpenDay, Least, Urgent}
 use Rattle.machine.specs.Acts.{Act}
 use Rattle.machine.specs.Standing.{KnownLot, items, has_item, bins, has_bin, is_store_bin, lot_known, has_lot, is_held, is_recalled, is_expired, is_short_dated, least_days, today, has_order, has_line}
 use Rattle.machine.specs.Planning.{in_bin, staged_of_lot, staged_for_order, units_in_house, is_open, reserved, open_units}

@@ -2,28 +2,17 @@
 use Rattle.std.specs.Prelude.{ℕ, Bool, not, ◌==◌, if◌then◌else◌, List, [], map, filter, reverse, Option, Some, None, option_map, ℤ}
 use Rattle.std.specs.Ordering.{nat_cmp, is_lt}
 use Rattle.std.specs.Cmp.Lexicographic.{slice_cmp}
-use Rattle.values.specs.Values.{same_text}
-use Rattle.values.specs.declared.lot.LotId.{LotId}
-use Rattle.commands.specs.Lists.{total, in_order}
-use Rattle.commands.specs.declared.rows.ItemRow.{ItemRow}
+use Rattle.machine.specs.Words.{same_text, LotId, total, in_order, ItemRow, ShipmentRow, NoticeView, CardView, CardRow, OrderLine, OrderView, StockView, ShortView}
 use Rattle.commands.specs.declared.views.BinUnits.{BinUnits}
 use Rattle.commands.specs.declared.views.ShippedUnits.{ShippedUnits}
-use Rattle.commands.specs.declared.rows.ShipmentRow.{ShipmentRow}
-use Rattle.commands.specs.declared.views.NoticeView.{NoticeView}
-use Rattle.commands.specs.declared.views.CardView.{CardView}
-use Rattle.commands.specs.declared.rows.CardRow.{CardRow}
-use Rattle.commands.specs.declared.command.OrderLine.{OrderLine}
 use Rattle.commands.specs.declared.views.ReservedLot.{ReservedLot}
 use Rattle.commands.specs.declared.views.StagedLot.{StagedLot}
 use Rattle.commands.specs.declared.views.LineView.{LineView}
 use Rattle.commands.specs.declared.rows.OrderClass.TheVariants.{Normal, Urgent}
-use Rattle.commands.specs.declared.views.OrderView.{OrderView}
 use Rattle.commands.specs.declared.views.LotStatus.{LotStatus}
 use Rattle.commands.specs.declared.views.LotStatus.TheVariants.{Recalled, Held, Expired, ShortDated, Free}
 use Rattle.commands.specs.declared.views.LotView.{LotView}
-use Rattle.commands.specs.declared.views.StockView.{StockView}
 use Rattle.commands.specs.declared.views.ShortLine.{ShortLine}
-use Rattle.commands.specs.declared.views.ShortView.{ShortView}
 use Rattle.machine.specs.Acts.{Act}
 use Rattle.machine.specs.Postings.{balance, is_lot, is_shipment}
 use Rattle.machine.specs.Standing.{is_held, is_recalled, is_expired, is_short_dated, least_days, today, lots_of, is_store_bin, orders, Placed, KnownLot, bins, shipments, order_named, lot_known}

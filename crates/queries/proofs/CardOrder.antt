@@ -28,23 +28,7 @@ module _ (first : ℤ) (act : Act) (before : List Act) (l : LotId) where
   line p WriteOff (InBin b) = told p WriteOn b (pos p.qty)
   line p (InBin b) WriteOff = told p WrittenOff b (neg_ℤ (pos p.qty))
   line p (Stage o) (Shipped n u) = told p Shipment (decimal n) (neg_ℤ (pos p.qty))
-  line p (InBin b) (InBin c) = inl refl
-  line p (InBin b) (Stage o) = inl refl
-  line p (InBin b) Supplier = inl refl
-  line p (InBin b) (Shipped n o) = inl refl
-  line p (Stage o) (InBin b) = inl refl
-  line p (Stage o) Supplier = inl refl
-  line p (Stage o) WriteOff = inl refl
-  line p (Stage o) (Stage u) = inl refl
-  line p Supplier Supplier = inl refl
-  line p Supplier WriteOff = inl refl
-  line p Supplier (Stage o) = inl refl
-  line p Supplier (Shipped n o) = inl refl
-  line p WriteOff Supplier = inl refl
-  line p WriteOff WriteOff = inl refl
-  line p WriteOff (Stage o) = inl refl
-  line p WriteOff (Shipped n o) = inl refl
-  line p (Shipped n o) to = inl refl
+  line p _ _ = inl refl
 
   own_line : (p : Posting) (rows : List CardRow) → IsLine p rows → IsOne p.act (own (rows ++ []))
   own_line p rows (inl none) = inl (rw none refl)

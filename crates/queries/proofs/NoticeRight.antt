@@ -1,5 +1,5 @@
 -- What is read of the tables of a history are the rows by which the recall notice of a lot is shown.
-use Rattle.queries.proofs.Words.{◌≡◌, ◌≤◌, ◌<◌, ℕ, true, List, [], ◌∷◌, map, filter, reverse, Global, inl, inr, refl, ap, sym, ◌∙◌, subst, arith, ◌==◌, ℤ, nat_eq, not, Option, Some, None, IsSomeAnd, Ok, Vec, AllByRecursion, cases_Bool, LotId, Tables, ACTS_MAX, CardRow, ShiplineRow, ShipmentRow, StockRow, BinUnits, NoticeView, ShippedUnits, Act, IsHistory, AreRows, same_cell, is_lot, shipments, tables_of, stock_row, notice_shown, bins_of_lot, card_of_lot, shipments_of_lot, shipped_units, has_shipped_units, is_lot_refl, StockKey, same_stock, stock_key, same_number, itself_number, one_order, AreCardLines, AreStockOfLot, same_cell_is, same_cell_refl, rows_read, rows_as, bins_seen, all_bins_shown, notice_of, notice_with_head, is_of_shipment, units_told, AllTell, AreShipped, shipment_cards, IsNoticeIn, whole, whole_notice_shown, NoticeRows}
+use Rattle.queries.proofs.Words.{◌≡◌, ◌≤◌, ◌<◌, true, List, [], ◌∷◌, map, filter, reverse, Global, inl, inr, refl, ap, sym, ◌∙◌, subst, arith, ◌==◌, ℤ, nat_eq, Option, Some, None, IsSomeAnd, Ok, Vec, AllByRecursion, cases_Bool, LotId, Tables, ACTS_MAX, CardRow, ShiplineRow, ShipmentRow, StockRow, BinUnits, NoticeView, ShippedUnits, Act, IsHistory, is_lot, shipments, tables_of, bins_of_lot, card_of_lot, shipments_of_lot, shipped_units, has_shipped_units, is_lot_refl, StockKey, same_stock, stock_key, same_number, itself_number, one_order, AreStockOfLot, same_cell_is, same_cell_refl, rows_read, rows_as, bins_seen, all_bins_shown, notice_with_head, is_of_shipment, units_told, AllTell, AreShipped, shipment_cards, IsNoticeIn, whole, whole_notice_shown, NoticeRows}
 use Rattle.queries.proofs.CardOrder.{card_lines_of}
 use Rattle.queries.proofs.ShipmentCards.{AreLines, cards_told, lines, units_of}
 use Rattle.queries.proofs.ShipmentOrder.{line_of, numbers_small, units_all_told}

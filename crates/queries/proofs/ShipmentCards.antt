@@ -1,5 +1,5 @@
 -- The lines of a lot's card that are of shipments are of the lines of its shipments, one of each.
-use Rattle.queries.proofs.Words.{◌≡◌, ◌≤◌, ℕ, suc, ◌+◌, ◌-◌, Bool, true, false, ◌&&◌, List, [], ◌∷◌, ◌++◌, map, filter, find, reverse, length, Option, Some, None, inl, inr, refl, sym, ap, ◌∙◌, subst, arith, append-nil, eq-eqb, ℤ, pos, negsuc, neg_ℤ, not, ◌==◌, nat_eq, if◌then◌else◌, flat_map, AllByRecursion, list_any, cases_Bool, nat_tests, reverse-append, all-append, all_weaker, all-filter, LotId, total, Key, Command, Item, Bin, Receive, Move, Count, Adjust, Order, Urgent, Cancel, Pick, Unpick, Ship, Hold, Release, Recall, OpenDay, Least, CardRow, ShipmentRow, ShiplineRow, Act, next_number, Place, Supplier, InBin, Stage, Shipped, WriteOff, Posting, balance, is_bin, is_lot, is_shipment, is_stage, units_in, units_out, posting, correction, written, cleared, shipped_off, lot_returned, returned, posted, postings, made_unshippable, cards, card_lines, KnownLot, Placed, RETURNS, lots, orders, shipments, shipments_after, shipments_so_far, today, staged_of_lot, if_any, IsHistory, card_of_lot, any_found, filter_appended, shipment_after, unknown_unstaged, unknown_shipment_is_empty, lots_apart, shipments_apart, card_of, found_line, found_wanted, is_of_shipment, IsLineOf, shipment_cards}
+use Rattle.queries.proofs.Words.{◌≡◌, ◌≤◌, ℕ, suc, ◌+◌, ◌-◌, Bool, true, false, ◌&&◌, List, [], ◌∷◌, ◌++◌, map, filter, find, reverse, Option, Some, None, inl, inr, refl, sym, ap, ◌∙◌, subst, arith, append-nil, eq-eqb, ℤ, pos, negsuc, neg_ℤ, not, ◌==◌, if◌then◌else◌, flat_map, AllByRecursion, cases_Bool, nat_tests, reverse-append, all-append, all_weaker, all-filter, LotId, total, Key, Command, Receive, Move, Count, Adjust, Pick, Unpick, Ship, Hold, Recall, OpenDay, Least, CardRow, ShipmentRow, ShiplineRow, Act, next_number, Place, Supplier, InBin, Stage, Shipped, WriteOff, Posting, balance, is_bin, is_lot, is_shipment, is_stage, units_in, units_out, posting, correction, written, cleared, lot_returned, returned, posted, postings, made_unshippable, cards, card_lines, KnownLot, Placed, RETURNS, lots, orders, shipments, shipments_so_far, today, staged_of_lot, if_any, IsHistory, card_of_lot, any_found, filter_appended, shipment_after, unknown_unstaged, unknown_shipment_is_empty, lots_apart, shipments_apart, card_of, found_line, found_wanted, is_of_shipment, IsLineOf, shipment_cards}
 use Rattle.queries.proofs.CardOrder.{IsOne, one_line}
 use Rattle.queries.proofs.ShipmentOrder.{all_reversed, falling}
 
@@ -88,23 +88,7 @@ module _ (first : ℤ) (act : Act) (before : List Act) where
   other_lines p WriteOff (InBin b) t = (refl, tt)
   other_lines p (InBin b) WriteOff t = (refl, tt)
   other_lines p (Stage o) (Shipped n u) t = absurd (let f : true ≡ false = t in cc)
-  other_lines p (InBin b) (InBin c) t = tt
-  other_lines p (InBin b) (Stage o) t = tt
-  other_lines p (InBin b) Supplier t = tt
-  other_lines p (InBin b) (Shipped n o) t = tt
-  other_lines p (Stage o) (InBin b) t = tt
-  other_lines p (Stage o) Supplier t = tt
-  other_lines p (Stage o) WriteOff t = tt
-  other_lines p (Stage o) (Stage u) t = tt
-  other_lines p Supplier Supplier t = tt
-  other_lines p Supplier WriteOff t = tt
-  other_lines p Supplier (Stage o) t = tt
-  other_lines p Supplier (Shipped n o) t = tt
-  other_lines p WriteOff Supplier t = tt
-  other_lines p WriteOff WriteOff t = tt
-  other_lines p WriteOff (Stage o) t = tt
-  other_lines p WriteOff (Shipped n o) t = tt
-  other_lines p (Shipped n o) to t = tt
+  other_lines p _ _ t = tt
 
   all_other : (qs : List Posting) → AllByRecursion Stays qs → AllByRecursion IsOther (flat_map (λ p. card_lines first act before p p.from p.to) qs)
   all_other [] all = tt
@@ -281,12 +265,7 @@ module _ (first : ℤ) (l : LotId) where
   by_command before key (Least asked) next low =
       let act : Act = record { key = key; command = Least asked } in
       others act before (stays_returned (next_number before) (postings first before) (orders before) (made_unshippable first act before)) refl
-  by_command before key (Item x) next low = others (record { key = key; command = Item x }) before tt refl
-  by_command before key (Bin x) next low = others (record { key = key; command = Bin x }) before tt refl
-  by_command before key (Order x) next low = others (record { key = key; command = Order x }) before tt refl
-  by_command before key (Urgent x) next low = others (record { key = key; command = Urgent x }) before tt refl
-  by_command before key (Cancel x) next low = others (record { key = key; command = Cancel x }) before tt refl
-  by_command before key (Release x) next low = others (record { key = key; command = Release x }) before tt refl
+  by_command before key c next low = others (record { key = key; command = c }) before tt refl
 
   pub cards_told : (acts : List Act) → IsHistory first acts → AreTold acts
   cards_told [] history = tt

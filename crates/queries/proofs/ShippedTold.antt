@@ -1,5 +1,5 @@
 -- What is told of the lines of a card, one after another.
-use Rattle.queries.proofs.Words.{◌≡◌, List, [], ◌∷◌, ◌++◌, append_assoc, append-nil, Global, Some, None, refl, ap, sym, ◌∙◌, Option, Vec, same_Some, Tables, CardRow, ShiplineRow, ShippedUnits, TellsOf, AllTell, AreTold}
+use Rattle.queries.proofs.Words.{◌≡◌, List, [], ◌∷◌, ◌++◌, append_assoc, append-nil, Global, Some, None, refl, ap, sym, ◌∙◌, Option, Vec, same_Some, Tables, CardRow, ShippedUnits, TellsOf, AllTell, AreTold}
 
 -- these are told of the lines before those that are left
 abbrev pub AreToldSoFar : Tables → List CardRow → List CardRow → List ShippedUnits → Type 0

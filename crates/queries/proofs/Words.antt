@@ -30,7 +30,7 @@ pub use Rattle.commands.specs.Lists.{total}
 pub use Rattle.commands.specs.Sound.{is_sound, is_order_line, are_lines}
 pub use Rattle.commands.specs.Tables.{Tables}
 pub use Rattle.commands.specs.declared.command.Command.{Command}
-pub use Rattle.commands.specs.declared.command.Command.TheVariants.{Receive, Move, Count, Adjust, Pick, Unpick, Ship, Hold, Recall, OpenDay, Least, Urgent, Order, Item, Bin, Cancel, Release}
+pub use Rattle.commands.specs.declared.command.Command.TheVariants.{Receive, Move, Count, Adjust, Pick, Unpick, Ship, Hold, Recall, OpenDay, Least, Urgent, Order}
 pub use Rattle.commands.specs.declared.command.NewBin.{NewBin}
 pub use Rattle.commands.specs.declared.command.NewItem.{NewItem}
 pub use Rattle.commands.specs.declared.command.OrderLine.{OrderLine}
@@ -60,14 +60,14 @@ pub use Rattle.commands.specs.declared.views.NoticeView.{NoticeView}
 pub use Rattle.commands.specs.declared.views.ShippedUnits.{ShippedUnits}
 pub use Rattle.machine.specs.Acts.{Act, next_number}
 pub use Rattle.machine.specs.Cards.{cards, card_line, card_lines, delivery_note, lot_units_in_house}
-pub use Rattle.machine.specs.KeyedRows.{no_two, AreRows, AreOwn, same_cell}
+pub use Rattle.machine.specs.KeyedRows.{no_two, AreRows, AreOwn}
 pub use Rattle.machine.specs.Ledger.{posting, correction, written, cleared, shipped_off, returned, posted, postings, made_unshippable, lot_returned}
 pub use Rattle.machine.specs.Once.{IsHistory}
 pub use Rattle.machine.specs.Planning.{is_open_state, is_open, order_state, staged_of_lot}
 pub use Rattle.machine.specs.Postings.{is_lot, Place, Supplier, InBin, Stage, Shipped, WriteOff, Posting, balance, is_bin, is_stage, is_shipment, units_in, units_out, of_item}
-pub use Rattle.machine.specs.Queries.{if_known, notice_shown}
+pub use Rattle.machine.specs.Queries.{if_known}
 pub use Rattle.machine.specs.Standing.{KnownLot, bin_named, lots, lot_known, orders, shipments_so_far, today, Placed, order_named, lines_placed, item_named, shipments, RETURNS, shipments_after, has_order, has_line, items}
-pub use Rattle.machine.specs.Tables.{meta_row, card_row, stock_row, urgent_row, if_urgent, order_row, if_any, shipment_row, item_row}
+pub use Rattle.machine.specs.Tables.{meta_row, card_row, urgent_row, if_urgent, order_row, if_any, shipment_row, item_row}
 unfoldable pub use Rattle.machine.specs.Tables.{tables_of}
 pub use Rattle.machine.specs.Verdict.{verdict}
 pub use Rattle.machine.specs.Views.{card_of_lot, bins_of_lot, shipments_of_lot, shipped_units, has_shipped_units, customer_of, order_view, short_view, stock_view}
@@ -146,7 +146,7 @@ pub use Rattle.slices.proofs.UrgentOrders.{urgents_of_each, urgents_told}
 pub use Rattle.queries.specs.Asked.{IsKnownOf, Asking}
 pub use Rattle.queries.specs.ByOrder.{AreStagedOf, AreReservedOf}
 pub use Rattle.queries.specs.Heads.{card_head_of}
-pub use Rattle.queries.specs.Refused.{notice_of, notice_with_head, card_head_right}
+pub use Rattle.queries.specs.Refused.{notice_with_head, card_head_right}
 pub use Rattle.queries.specs.Shipped.{is_of_shipment, units_told, AllTell, AreShipped, shipment_cards, IsLineOf, with_order, with_shipment, TellsOf, AreTold}
 pub use Rattle.queries.specs.ShownBin.{lots_of_stock, AreStockAndLots, AreOfGoods, AreInBinRead, AreInBinBehind, AreBehind, IsBinIn}
 pub use Rattle.queries.specs.ShownExpiring.{IsLotSeen, lots_in_house, AreHouse, AreOfItems, AreExpiring, AreExpiringBehind, AreExpiringIn}

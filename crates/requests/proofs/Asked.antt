@@ -1,26 +1,10 @@
 -- What a request asks, step by step.
-use Rattle.requests.proofs.Words.{◌≡◌, ◌≢◌, ◌∙◌, ap, refl, ℕ, List, Bool, Option, Some, Err, if◌then◌else◌, ok_or, bytes_eq, Data, json, body_of, route_of, method_of, method_name, valued, posted, read_route, read_method, read_ask, Ask, Field, Method, Route, Posted, Items, Bins, Receipts, Moves, Counts, Adjustments, Orders, Cancels, Picks, Unpicks, Shipments, Holds, Releases, Recalls, Days, Leasts, Urgents, GoodsIn}
+use Rattle.requests.proofs.Words.{◌≡◌, ◌≢◌, ◌∙◌, ap, refl, ℕ, List, Bool, Option, Some, Err, if◌then◌else◌, ok_or, bytes_eq, Data, json, body_of, route_of, method_of, method_name, valued, posted, read_route, read_method, read_ask, Ask, Field, Method, Route, Posted, GoodsIn}
 
 -- what is no file is JSON
 as_json : (p : Posted) (body : List ℕ) → p ≢ GoodsIn → posted p body ≡ valued p (json body)
-as_json Items body n = refl
-as_json Bins body n = refl
-as_json Receipts body n = refl
-as_json Moves body n = refl
-as_json Counts body n = refl
-as_json Adjustments body n = refl
-as_json Orders body n = refl
-as_json Cancels body n = refl
-as_json Picks body n = refl
-as_json Unpicks body n = refl
-as_json Shipments body n = refl
-as_json Holds body n = refl
-as_json Releases body n = refl
-as_json Recalls body n = refl
-as_json Days body n = refl
-as_json Leasts body n = refl
-as_json Urgents body n = refl
 as_json GoodsIn body n = absurd (n refl)
+as_json _ body n = refl
 
 pub with_json : (p : Posted) (body : List ℕ) (d : Data) (o : Option Ask) → p ≢ GoodsIn → json body ≡ Some d → body_of p d ≡ o
     → posted p body ≡ ok_or o Field

@@ -40,7 +40,7 @@ pub use Rattle.requests.specs.declared.method.Method.TheVariants.{Get, Post}
 pub use Rattle.requests.specs.declared.request.Read.{Read}
 pub use Rattle.requests.specs.declared.request.Read.TheVariants.{Need, Bad}
 pub use Rattle.requests.specs.declared.routes.Posted.{Posted}
-pub use Rattle.requests.specs.declared.routes.Posted.TheVariants.{Items, Bins, Receipts, Moves, Counts, Adjustments, Orders, Cancels, Picks, Unpicks, Shipments, Holds, Releases, Recalls, Days, Leasts, Urgents, GoodsIn}
+pub use Rattle.requests.specs.declared.routes.Posted.TheVariants.{Items, Bins, Receipts, Counts, Orders, Recalls, Days, Leasts, Urgents, GoodsIn}
 pub use Rattle.requests.specs.declared.routes.Route.{Route}
 pub use Rattle.requests.specs.declared.routes.Route.TheVariants.{Post as PostTo, Get as GetOf}
 pub use Rattle.requests.specs.declared.routes.Shown.TheVariants.{Order as AnOrder, Stock as TheStock, PickList as APickList, Shortages as TheShortages, Card, Notice as ANotice, Books, OpenOrders, OpenOrdersBehind, ItemNames, ItemNamesBehind, Expiring, ExpiringBehind, Bin, BinBehind}

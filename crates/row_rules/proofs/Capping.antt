@@ -1,5 +1,5 @@
 -- Sums that stop at the cap, and the first refusal along a list.
-use Rattle.row_rules.proofs.Words.{◌≡◌, ℕ, ◌+◌, ◌≤◌, ◌<◌, min, Bool, true, false, List, length, get_or, drop, ap, sym, ◌∙◌, arith, Some, if◌then◌else◌, drop-length, drop_from, total, CAP, capped, Judgement, first_refusal, Refusal}
+use Rattle.row_rules.proofs.Words.{◌≡◌, ℕ, ◌+◌, ◌≤◌, ◌<◌, min, List, length, get_or, drop, ap, arith, drop-length, drop_from, total, CAP, capped, Judgement, first_refusal}
 
 pub record IsCapped {X : Type 0} (f : X → ℕ) (xs : List X) (i sum : ℕ) : Type 0 where
   pub so_far : capped (sum + total f (drop i xs)) ≡ capped (total f xs)
@@ -17,13 +17,3 @@ capped_all f xs i sum e s = omega (arith, s.so_far, s.within, ap (λ n. total f 
 
 pub record IsJudged (cs : Judgement) (i : ℕ) : Type 0 where
   pub rest : first_refusal (drop i cs) ≡ first_refusal cs
-
-judge_step : (cs : Judgement) (i : ℕ) (none : Bool × Refusal) → i < length cs → IsJudged cs i
-    → (if (get_or cs i none).0 then Some (get_or cs i none).1 else first_refusal (drop (i + 1) cs)) ≡ first_refusal cs
-judge_step cs i none h s = sym (ap first_refusal (drop_from cs i none h)) ∙ s.rest
-
-pub judged_more : (cs : Judgement) (i : ℕ) (none : Bool × Refusal) → i < length cs → (get_or cs i none).0 ≡ false → IsJudged cs i → IsJudged cs (i + 1)
-judged_more cs i none h e s = record { rest = sym (ap (λ b. if b then Some (get_or cs i none).1 else first_refusal (drop (i + 1) cs)) e) ∙ judge_step cs i none h s }
-
-pub judged_at : (cs : Judgement) (i : ℕ) (none : Bool × Refusal) → i < length cs → (get_or cs i none).0 ≡ true → IsJudged cs i → Some (get_or cs i none).1 ≡ first_refusal cs
-judged_at cs i none h e s = sym (ap (λ b. if b then Some (get_or cs i none).1 else first_refusal (drop (i + 1) cs)) e) ∙ judge_step cs i none h s

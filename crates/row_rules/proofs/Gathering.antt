@@ -1,7 +1,7 @@
 -- Loops that gather what each element of a list gives, and a search for an item that is named twice.
-use Rattle.row_rules.proofs.Words.{◌≡◌, ℕ, ◌+◌, ◌<◌, Bool, true, false, List, ◌∷◌, ◌++◌, length, get_or, drop, refl, ap, sym, ◌∙◌, append_assoc, ◌||◌, not, min, if◌then◌else◌, [], map, filter, flat_map, list_any, drop-length, drop_from, same_text, OrderLine, ReservedRow, names_item_twice, CAP, capped, total}
+use Rattle.row_rules.proofs.Words.{◌≡◌, ℕ, ◌+◌, ◌<◌, Bool, true, false, List, ◌∷◌, ◌++◌, length, get_or, drop, refl, ap, sym, ◌∙◌, append_assoc, not, min, if◌then◌else◌, [], map, filter, flat_map, drop_from, OrderLine, ReservedRow, names_item_twice, CAP, capped, total}
 use Rattle.row_rules.proofs.Walking.{append_none, drop_end}
-use Rattle.row_rules.proofs.Capping.{IsCapped, capped_none, capped_more, capped_all}
+use Rattle.row_rules.proofs.Capping.{IsCapped, capped_more, capped_all}
 
 -- gathered one by one
 pub record IsGathered {X Y : Type 0} (f : X → List Y) (xs : List X) (i : ℕ) (out : List Y) : Type 0 where
@@ -37,9 +37,6 @@ pub record AreParted {X Y : Type 0} (f : X → Y) (test : X → Bool) (xs : List
   pub rest : IsGathered (made_if f (λ x. not (test x))) xs i others
 
 module _ {X Y : Type 0} (f : X → Y) (test : X → Bool) (xs : List X) where
-  pub parted_none : (passed others : List Y) → passed ≡ [] → others ≡ [] → AreParted f test xs 0 passed others
-  parted_none passed others p o = record { first = gathered_none (made_if f test) xs passed p; rest = gathered_none (made_if f (λ x. not (test x))) xs others o }
-
   pub parted_more : (i : ℕ) (passed others : List Y) (none : X) (b : Bool) (y : Y) (new_passed new_others : List Y) → i < length xs → AreParted f test xs i passed others
       → b ≡ test (get_or xs i none) → y ≡ f (get_or xs i none)
       → new_passed ≡ passed ++ (if b then y ∷ [] else []) → new_others ≡ others ++ (if not b then y ∷ [] else []) → AreParted f test xs (i + 1) new_passed new_others
@@ -60,9 +57,6 @@ pub record IsBooked (f : OrderLine → List ReservedRow) (h : OrderLine → ℕ)
   pub short : IsCapped h xs i sum
 
 module _ (f : OrderLine → List ReservedRow) (h : OrderLine → ℕ) (xs : List OrderLine) where
-  pub booked_none : (puts : List ReservedRow) → puts ≡ [] → IsBooked f h xs 0 puts 0
-  booked_none puts p = record { put = gathered_none f xs puts p; short = capped_none h xs }
-
   pub booked_more : (i : ℕ) (puts : List ReservedRow) (sum : ℕ) (none : OrderLine) (new_puts : List ReservedRow) (new_sum : ℕ) → i < length xs → IsBooked f h xs i puts sum
       → new_puts ≡ puts ++ f (get_or xs i none) → new_sum ≡ min (sum + h (get_or xs i none)) CAP → IsBooked f h xs (i + 1) new_puts new_sum
   booked_more i puts sum none new_puts new_sum less b p s = record {
@@ -79,19 +73,3 @@ module _ (f : OrderLine → List ReservedRow) (h : OrderLine → ℕ) (xs : List
 -- an item that is named twice is named twice from i on
 pub record IsSoughtTwice (xs : List OrderLine) (i : ℕ) : Type 0 where
   pub rest : names_item_twice (drop i xs) ≡ names_item_twice xs
-
-pub sought_none : (xs : List OrderLine) → IsSoughtTwice xs 0
-sought_none xs = record { rest = refl }
-
-sought_step : (xs : List OrderLine) (i : ℕ) (none : OrderLine) → i < length xs → IsSoughtTwice xs i
-    → list_any (λ m. same_text (get_or xs i none).gtin m.gtin) (drop (i + 1) xs) || names_item_twice (drop (i + 1) xs) ≡ names_item_twice xs
-sought_step xs i none h s = sym (ap names_item_twice (drop_from xs i none h)) ∙ s.rest
-
-pub sought_more : (xs : List OrderLine) (i : ℕ) (none : OrderLine) → i < length xs → list_any (λ m. same_text (get_or xs i none).gtin m.gtin) (drop (i + 1) xs) ≡ false → IsSoughtTwice xs i → IsSoughtTwice xs (i + 1)
-sought_more xs i none h e s = record { rest = sym (ap (λ b. b || names_item_twice (drop (i + 1) xs)) e) ∙ sought_step xs i none h s }
-
-pub sought_at : (xs : List OrderLine) (i : ℕ) (none : OrderLine) → i < length xs → list_any (λ m. same_text (get_or xs i none).gtin m.gtin) (drop (i + 1) xs) ≡ true → IsSoughtTwice xs i → true ≡ names_item_twice xs
-sought_at xs i none h e s = sym (ap (λ b. b || names_item_twice (drop (i + 1) xs)) e) ∙ sought_step xs i none h s
-
-pub sought_all : (xs : List OrderLine) (i : ℕ) → i ≡ length xs → IsSoughtTwice xs i → false ≡ names_item_twice xs
-sought_all xs i e s = ap names_item_twice (sym (ap (λ n. drop n xs) e ∙ drop-length xs)) ∙ s.rest

@@ -133,25 +133,6 @@ pub find_more : {X : Type 0} (test : X → Bool) (xs : List X) (i : ℕ) (none :
     → option_or (find test (take i xs)) (if test (get_or xs i none) then Some (get_or xs i none) else None) ≡ find test (take (i + 1) xs)
 find_more test xs i none h = sym (ap (find test) (take_more xs i none h) ∙ find-append test (take i xs) (get_or xs i none ∷ []))
 
--- a row of a number that none had
-pub first_added : {X : Type 0} (x : X) (k : ℕ) (old new : BTreeMap ℕ X) → is_some (get nat_cmp old k) ≡ false → ((q : ℕ) → get nat_cmp new q ≡ cond (is_at (nat_cmp k) q) (Some x) (get nat_cmp old q))
-    → (q : ℕ) → get nat_cmp new q ≡ option_or (get nat_cmp old q) (if q == k then Some x else None)
-first_added x k old new none updates q =
-    updates q
-    ∙ elim (is_at (nat_cmp k) q) as (λ b. is_at (nat_cmp k) q ≡ b → cond b (Some x) (get nat_cmp old q) ≡ option_or (get nat_cmp old q) (if b then Some x else None)) [
-      | true ↦ λ e. nothing_there (get nat_cmp old q) (Some x) (ap (λ n. is_some (get nat_cmp old n)) (sym (tells_apart exact_unsigned k q e)) ∙ none)
-      | false ↦ λ e. or_none (get nat_cmp old q)
-    ] refl
-    ∙ ap (λ b. option_or (get nat_cmp old q) (if b then Some x else None)) (sym (equal_turned q k ∙ sym (unsigned_tied k q)))
-  where
-    nothing_there : {X : Type 0} (y z : Option X) → is_some y ≡ false → z ≡ option_or y z
-    nothing_there None z e = refl
-    nothing_there (Some y) z e = let f : true ≡ false = e in cc
-
-    or_none : {X : Type 0} (y : Option X) → y ≡ option_or y None
-    or_none None = refl
-    or_none (Some y) = refl
-
 -- a row of a number that one has already
 pub first_there : {X : Type 0} (x : X) (k : ℕ) (m : BTreeMap ℕ X) → is_some (get nat_cmp m k) ≡ true → (q : ℕ) → get nat_cmp m q ≡ option_or (get nat_cmp m q) (if q == k then Some x else None)
 first_there x k m there q =

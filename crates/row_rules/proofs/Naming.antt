@@ -10,9 +10,6 @@ module _ (order : ℕ → Option OrderRow) (lot : ℕ → Option LotRow) (rows :
   pub record IsNaming (i : ℕ) (out : List ReservedRow) : Type 0 where
     pub so_far : out ++ rows_named order lot (drop i rows) ≡ rows_named order lot rows
 
-  pub naming_none : (out : List ReservedRow) → out ≡ [] → IsNaming 0 out
-  naming_none out e = record { so_far = ap (λ ys. ys ++ rows_named order lot rows) e }
-
   pub naming_more : (i : ℕ) (out : List ReservedRow) (none : Row) (new : List ReservedRow) (x : Option ReservedRow) → i < length rows → IsNaming i out
       → x ≡ named_row (order (get_or rows i none).booking) (lot (get_or rows i none).lot) (get_or rows i none).qty → new ≡ out ++ cons_option x [] → IsNaming (i + 1) new
   naming_more i out none new x h s n e = record {

@@ -12,9 +12,6 @@ append_none (x ∷ xs) = ap (λ ys. x ∷ ys) (append_none xs)
 pub record IsMapped {X Y : Type 0} (f : X → Y) (xs : List X) (i : ℕ) (out : List Y) : Type 0 where
   pub so_far : out ++ map f (drop i xs) ≡ map f xs
 
-pub mapped_none : {X Y : Type 0} (f : X → Y) (xs : List X) (out : List Y) → out ≡ [] → IsMapped f xs 0 out
-mapped_none f xs out e = record { so_far = ap (λ ys. ys ++ map f xs) e }
-
 pub mapped_more : {X Y : Type 0} (f : X → Y) (xs : List X) (i : ℕ) (out : List Y) (none : X) (new : List Y) → i < length xs → IsMapped f xs i out → new ≡ out ++ f (get_or xs i none) ∷ [] → IsMapped f xs (i + 1) new
 mapped_more f xs i out none new h s e = record {
   so_far = ap (λ ys. ys ++ map f (drop (i + 1) xs)) e ∙ append_assoc out (f (get_or xs i none) ∷ []) (map f (drop (i + 1) xs)) ∙ sym (ap (λ ys. out ++ map f ys) (drop_from xs i none h)) ∙ s.so_far;
@@ -53,9 +50,6 @@ pub record IsInserted {X Y : Type 0} (earlier : Y → Y → Bool) (f : List X �
 pub record IsPlaced {X : Type 0} (earlier : X → X → Bool) (x : X) (ys : List X) (i : ℕ) : Type 0 where
   pub so_far : placed earlier x ys ≡ take i ys ++ placed earlier x (drop i ys)
 
-pub placed_none : {X : Type 0} (earlier : X → X → Bool) (x : X) (ys : List X) → IsPlaced earlier x ys 0
-placed_none earlier x ys = record { so_far = refl }
-
 pub placed_more : {X : Type 0} (earlier : X → X → Bool) (x : X) (ys : List X) (i : ℕ) (none : X) → i < length ys → earlier (get_or ys i none) x ≡ true → IsPlaced earlier x ys i → IsPlaced earlier x ys (i + 1)
 placed_more earlier x ys i none h e s = record {
   so_far =
@@ -70,6 +64,3 @@ placed_at earlier x ys i none h e s =
     s.so_far ∙ ap (λ zs. take i ys ++ placed earlier x zs) (drop_from ys i none h)
     ∙ ap (λ b. take i ys ++ (if b then get_or ys i none ∷ placed earlier x (drop (i + 1) ys) else x ∷ get_or ys i none ∷ drop (i + 1) ys)) e
     ∙ sym (ap (λ zs. take i ys ++ x ∷ zs) (drop_from ys i none h))
-
-pub placed_all : {X : Type 0} (earlier : X → X → Bool) (x : X) (ys : List X) (i : ℕ) → i ≡ length ys → IsPlaced earlier x ys i → placed earlier x ys ≡ take i ys ++ x ∷ drop i ys
-placed_all earlier x ys i e s = s.so_far ∙ ap (λ zs. take i ys ++ placed earlier x zs) (drop_end ys i e) ∙ sym (ap (λ zs. take i ys ++ x ∷ zs) (drop_end ys i e))

@@ -25,7 +25,6 @@ pub use Rattle.values.specs.Values.{same_text}
 pub use Rattle.values.proofs.Turned.{turned_same}
 pub use Rattle.commands.specs.Lists.{total, placed}
 pub use Rattle.commands.specs.declared.command.OrderLine.{OrderLine}
-pub use Rattle.commands.specs.declared.refusal.Refusal.{Refusal}
 pub use Rattle.commands.specs.declared.rows.ItemRow.{ItemRow}
 pub use Rattle.commands.specs.declared.rows.LeastRow.{LeastRow}
 pub use Rattle.commands.specs.declared.rows.LineRow.{LineRow}

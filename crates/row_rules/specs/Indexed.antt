@@ -1,7 +1,6 @@
 -- Rows indexed by their texts: what they tell of an item.
 use Rattle.std.specs.Prelude.{ℕ, List, ℤ}
-use Rattle.plan.specs.declared.Demand.{Demand}
-use Rattle.plan.specs.declared.Supply.{Supply}
+use Rattle.row_rules.specs.Words.{Demand, Supply}
 use Rattle.row_rules.specs.Status.{earliest_seen}
 use Rattle.row_rules.specs.Replanning.{item_demands, item_supplies}
 use Rattle.row_rules.specs.declared.indexed.DemandsIndexed.{DemandsIndexed}

@@ -1,3 +1,4 @@
+mod Words
 pub mod Seen
 pub mod Status
 pub mod SeenOrders

@@ -5,11 +5,7 @@ use Rattle.std.specs.Option.{option_or}
 use Rattle.std.specs.Ordering.{nat_cmp}
 use Rattle.std.specs.Cmp.Lexicographic.{slice_cmp}
 use Rattle.std.specs.BTreeMap.{get}
-use Rattle.values.specs.Values.{same_text}
-use Rattle.plan.specs.declared.Row.{Row}
-use Rattle.commands.specs.declared.rows.OrderRow.{OrderRow}
-use Rattle.commands.specs.declared.rows.LotRow.{LotRow}
-use Rattle.commands.specs.declared.rows.ReservedRow.{ReservedRow}
+use Rattle.row_rules.specs.Words.{same_text, Row, OrderRow, LotRow, ReservedRow}
 use Rattle.row_rules.specs.Plans.{named_row}
 use Rattle.row_rules.specs.declared.row_index.RowsByText.{RowsByText}
 use Rattle.row_rules.specs.declared.row_index.RowsByNumber.{RowsByNumber}

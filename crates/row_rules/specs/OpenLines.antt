@@ -1,11 +1,7 @@
 -- What open orders have ordered of an item and not got, line by line.
 use Rattle.std.specs.Prelude.{ℕ, ◌-◌, Bool, ◌&&◌, if◌then◌else◌, List}
 use Rattle.std.specs.List.{list_any}
-use Rattle.values.specs.Values.{same_text}
-use Rattle.commands.specs.Lists.{total}
-use Rattle.commands.specs.declared.rows.OrderRow.{OrderRow}
-use Rattle.commands.specs.declared.rows.LineRow.{LineRow}
-use Rattle.machine.specs.Planning.{is_open_state}
+use Rattle.row_rules.specs.Words.{same_text, total, OrderRow, LineRow, is_open_state}
 use Rattle.row_rules.specs.Seen.{capped}
 
 -- the rows have an open order of the name

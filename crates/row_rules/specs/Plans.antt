@@ -1,26 +1,7 @@
 -- The plan of an item as rows tell it, and the reserved rows that it changes.
 use Rattle.std.specs.Prelude.{ℕ, ◌-◌, min, Bool, false, not, ◌&&◌, ◌||◌, ◌==◌, nat_lt, if◌then◌else◌, List, [], ◌∷◌, ◌++◌, map, filter, find, Option, Some, None, ℤ, int_lt}
 use Rattle.std.specs.List.{list_any, cons_option}
-use Rattle.values.specs.Values.{same_text}
-use Rattle.values.specs.declared.lot.LotId.{LotId}
-use Rattle.commands.specs.Lists.{total, placed}
-use Rattle.commands.specs.declared.rows.BinRow.{BinRow}
-use Rattle.commands.specs.declared.rows.LotRow.{LotRow}
-use Rattle.commands.specs.declared.rows.RecallRow.{RecallRow}
-use Rattle.commands.specs.declared.rows.StockRow.{StockRow}
-use Rattle.commands.specs.declared.rows.OrderRow.{OrderRow}
-use Rattle.commands.specs.declared.rows.UrgentRow.{UrgentRow}
-use Rattle.commands.specs.declared.rows.LineRow.{LineRow}
-use Rattle.commands.specs.declared.rows.StagedRow.{StagedRow}
-use Rattle.commands.specs.declared.rows.ReservedRow.{ReservedRow}
-use Rattle.plan.specs.declared.TheConstants.{SUM_MAX}
-use Rattle.plan.specs.declared.Demand.{Demand}
-use Rattle.plan.specs.declared.Supply.{Supply}
-use Rattle.plan.specs.declared.Row.{Row}
-use Rattle.plan.specs.Overlap.{plan_rows}
-use Rattle.machine.specs.Postings.{is_lot, of_item}
-use Rattle.machine.specs.Standing.{is_store_kind}
-use Rattle.machine.specs.Planning.{is_open_state}
+use Rattle.row_rules.specs.Words.{same_text, LotId, total, placed, BinRow, LotRow, RecallRow, StockRow, OrderRow, UrgentRow, LineRow, StagedRow, ReservedRow, SUM_MAX, Demand, Supply, Row, plan_rows, is_lot, of_item, is_store_kind, is_open_state}
 use Rattle.row_rules.specs.Seen.{capped}
 use Rattle.row_rules.specs.Status.{may_ship}
 

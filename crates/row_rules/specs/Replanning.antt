@@ -2,22 +2,8 @@
 -- there are after it.
 use Rattle.std.specs.Prelude.{ℕ, ◌==◌, Bool, ◌&&◌, not, List, ◌∷◌, take, drop, filter, ℤ}
 use Rattle.std.specs.List.{list_any}
-use Rattle.commands.specs.declared.rows.BinRow.{BinRow}
-use Rattle.commands.specs.declared.rows.LotRow.{LotRow}
-use Rattle.commands.specs.declared.rows.LeastRow.{LeastRow}
+use Rattle.row_rules.specs.Words.{BinRow, LotRow, LeastRow, RecallRow, StockRow, OrderRow, UrgentRow, LineRow, StagedRow, ReservedRow, SUM_MAX, Demand, Supply, Row, plan_rows, demand_total}
 use Rattle.row_rules.specs.Status.{earliest_seen}
-use Rattle.commands.specs.declared.rows.RecallRow.{RecallRow}
-use Rattle.commands.specs.declared.rows.StockRow.{StockRow}
-use Rattle.commands.specs.declared.rows.OrderRow.{OrderRow}
-use Rattle.commands.specs.declared.rows.UrgentRow.{UrgentRow}
-use Rattle.commands.specs.declared.rows.LineRow.{LineRow}
-use Rattle.commands.specs.declared.rows.StagedRow.{StagedRow}
-use Rattle.commands.specs.declared.rows.ReservedRow.{ReservedRow}
-use Rattle.plan.specs.declared.TheConstants.{SUM_MAX}
-use Rattle.plan.specs.declared.Demand.{Demand}
-use Rattle.plan.specs.declared.Supply.{Supply}
-use Rattle.plan.specs.declared.Row.{Row}
-use Rattle.plan.specs.Overlap.{plan_rows, demand_total}
 use Rattle.plan.specs.Changes.{cut_of}
 use Rattle.row_rules.specs.Plans.{demands_seen, supplies_seen, demands_within, supplies_within, named_rows, rows_to_put, rows_to_drop}
 use Rattle.row_rules.specs.declared.slice.Slice.{Slice}

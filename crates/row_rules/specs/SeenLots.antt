@@ -1,11 +1,7 @@
 -- What a decision reads of a lot and of its units in a bin, and the stock rows where these have changed.
 use Rattle.std.specs.Prelude.{ℕ, Bool, false, not, ◌&&◌, ◌==◌, if◌then◌else◌, List, [], ◌∷◌, ◌++◌, filter, find, Option, Some, None, is_some}
 use Rattle.std.specs.List.{cons_option}
-use Rattle.values.specs.Values.{same_text}
-use Rattle.values.specs.declared.lot.LotId.{LotId}
-use Rattle.commands.specs.declared.rows.LotRow.{LotRow}
-use Rattle.commands.specs.declared.rows.StockRow.{StockRow}
-use Rattle.machine.specs.Postings.{is_lot}
+use Rattle.row_rules.specs.Words.{same_text, LotId, LotRow, StockRow, is_lot}
 use Rattle.row_rules.specs.Seen.{lot_seen, stock_qty}
 use Rattle.row_rules.specs.declared.slice.Slice.{Slice}
 

@@ -1,11 +1,6 @@
 -- What a decision reads of an order in the rows of its slice.
 use Rattle.std.specs.Prelude.{ℕ, Bool, false, ◌&&◌, if◌then◌else◌, List, find, filter, map, Option, Some, None, is_some}
-use Rattle.values.specs.Values.{same_text}
-use Rattle.commands.specs.Lists.{total}
-use Rattle.commands.specs.declared.rows.OrderRow.{OrderRow}
-use Rattle.commands.specs.declared.rows.LineRow.{LineRow}
-use Rattle.commands.specs.declared.rows.StagedRow.{StagedRow}
-use Rattle.machine.specs.Planning.{is_open_state}
+use Rattle.row_rules.specs.Words.{same_text, total, OrderRow, LineRow, StagedRow, is_open_state}
 use Rattle.row_rules.specs.Seen.{capped}
 use Rattle.row_rules.specs.declared.slice.Slice.{Slice}
 

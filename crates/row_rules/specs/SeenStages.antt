@@ -1,11 +1,7 @@
 -- What a decision reads of the units of a lot that are staged or reserved for an order.
 use Rattle.std.specs.Prelude.{ℕ, ◌&&◌, ◌==◌, if◌then◌else◌, List, [], ◌∷◌, find, Option, Some, None}
 use Rattle.std.specs.List.{cons_option}
-use Rattle.values.specs.Values.{same_text}
-use Rattle.values.specs.declared.lot.LotId.{LotId}
-use Rattle.commands.specs.declared.rows.StagedRow.{StagedRow}
-use Rattle.commands.specs.declared.rows.ReservedRow.{ReservedRow}
-use Rattle.machine.specs.Postings.{is_lot}
+use Rattle.row_rules.specs.Words.{same_text, LotId, StagedRow, ReservedRow, is_lot}
 use Rattle.row_rules.specs.declared.slice.Slice.{Slice}
 
 abbrev pub reserved_qty : Option ReservedRow → ℕ

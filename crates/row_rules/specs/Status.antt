@@ -1,12 +1,8 @@
 -- How a lot stands on a day, by its row and the recalls, and whether it may be shipped.
 use Rattle.std.specs.Prelude.{ℕ, Bool, false, not, ◌&&◌, if◌then◌else◌, List, find, Option, Some, None, ℤ, pos, ◌+ℤ◌}
-use Rattle.values.specs.Values.{same_text}
-use Rattle.commands.specs.declared.rows.LotRow.{LotRow}
-use Rattle.commands.specs.declared.rows.LeastRow.{LeastRow}
-use Rattle.commands.specs.declared.rows.RecallRow.{RecallRow}
+use Rattle.row_rules.specs.Words.{same_text, LotRow, LeastRow, RecallRow, is_expired, is_short_dated}
 use Rattle.commands.specs.declared.views.LotStatus.{LotStatus}
 use Rattle.commands.specs.declared.views.LotStatus.TheVariants.{Recalled, Held, Expired, ShortDated, Free}
-use Rattle.machine.specs.Standing.{is_expired, is_short_dated}
 use Rattle.row_rules.specs.Seen.{has_recall}
 
 -- recalled comes first, then held, then expired, then short-dated

@@ -41,20 +41,6 @@ module _ {K R : Type 0} (cmp : K → K → Ordering) where
       chosen true e = inl (subst (λ x. is_eq (cmp x q) ≡ true) is e, value)
       chosen false e = among (rows_at cmp mid q) (part q)
 
-  pub learns_none : (k : K) (rows : List R) (old new : RowMap K R) → IsPart cmp old new → LearnsAt cmp k rows old new
-  learns_none k rows old new part q = among (rows_at cmp new q) (part q)
-    where
-      among : (x : Option (List R)) → IfSome x (λ found. rows_at cmp old q ≡ Some found) → IfSome x (λ found. ((is_eq (cmp k q) ≡ true) × (found ≡ rows)) ⊎ (rows_at cmp old q ≡ Some found))
-      among None h = tt
-      among (Some found) h = inr h
-
-  pub part_then : (old mid new : RowMap K R) → IsPart cmp old mid → IsPart cmp mid new → IsPart cmp old new
-  part_then old mid new p r q = through (rows_at cmp new q) (r q)
-    where
-      through : (x : Option (List R)) → IfSome x (λ found. rows_at cmp mid q ≡ Some found) → IfSome x (λ found. rows_at cmp old q ≡ Some found)
-      through None h = tt
-      through (Some found) h = subst (λ (y : Option (List R)). IfSome y (λ f. rows_at cmp old q ≡ Some f)) h (p q)
-
   module _ (k own : K) (change : List R → List R) (old : RowMap K R) (is : own ≡ k) where
     abbrev Changed : K → Option (List R) → Type 0
     Changed q x = IfSome x (λ found. (before : List R) × (rows_at cmp old q ≡ Some before) × (found ≡ (if is_eq (cmp k q) then change before else before)))
@@ -103,9 +89,6 @@ module _ {K R : Type 0} (cmp : K → K → Ordering) where
   -- Rows in turn
 
   module _ (key : R → K) (change : R → List R → List R) where
-    each_then : (all left : List R) (r : R) (q : K) (before : List R) → each_changed cmp key change (r ∷ left) q before ≡ each_changed cmp key change left q (if is_eq (cmp (key r) q) then change r before else before)
-    each_then all left r q before = refl
-
     -- with those that are left it will be what all of them make of what was before
     abbrev pub Coming : List R → List R → RowMap K R → RowMap K R → Type 0
     Coming all rest old mid = (q : K) → IfSome (rows_at cmp mid q) (λ now. (before : List R) × (rows_at cmp old q ≡ Some before) × (each_changed cmp key change rest q now ≡ each_changed cmp key change all q before))

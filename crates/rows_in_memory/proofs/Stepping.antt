@@ -1,7 +1,6 @@
 -- What came and what went, row by row.
-use Rattle.rows_in_memory.proofs.Words.{◌≡◌, ℕ, Bool, true, false, not, ◌&&◌, List, [], ◌∷◌, refl, ap, sym, ◌∙◌, ◌||◌, list_any, same_text, Entries, holds, Gains, Loses, Keeps, IsSame, same_text_is}
-use Rattle.rows_in_memory.proofs.Truths.{or_grouped, or_first, or_false, and_false}
-use Rattle.rows_in_memory.proofs.Names.{same_holds}
+use Rattle.rows_in_memory.proofs.Words.{◌≡◌, ℕ, Bool, true, false, not, ◌&&◌, List, [], ◌∷◌, refl, ap, sym, ◌∙◌, ◌||◌, list_any, same_text, Entries, holds, Gains, Loses, Keeps, same_text_is}
+use Rattle.rows_in_memory.proofs.Truths.{or_grouped, or_first, and_false}
 
 module _ {X : Type 0} (test : X → List ℕ → List ℕ → Bool) where
   abbrev any : List X → List ℕ → List ℕ → Bool
@@ -18,18 +17,6 @@ module _ {X : Type 0} (test : X → List ℕ → List ℕ → Bool) where
   gaining_more all left rest x old mid new is came so_far g o =
       ap (λ b. b || any rest g o) (came g o) ∙ or_grouped (holds mid g o) (test x g o) (any rest g o) ∙ ap (λ (l : List X). holds mid g o || any l g o) (sym is) ∙ so_far g o
 
-  pub gained : (all : List X) (old new : Entries) → Gaining all [] old new → Gains (any all) old new
-  gained all old new so_far g o = sym (or_false (holds new g o)) ∙ so_far g o
-
-  pub losing_more : (all left rest : List X) (x : X) (old mid new : Entries) → left ≡ x ∷ rest → Loses (test x) mid new → Losing all left old mid → Losing all rest old new
-  losing_more all left rest x old mid new is went so_far g o =
-      ap (λ b. b && not (any rest g o)) (went g o) ∙ parted (holds mid g o) (test x g o) (any rest g o) ∙ ap (λ (l : List X). holds mid g o && not (any l g o)) (sym is) ∙ so_far g o
-    where
-      parted : (m a r : Bool) → (m && not a) && not r ≡ m && not (a || r)
-      parted true true r = refl
-      parted true false r = refl
-      parted false a r = refl
-
   pub lost : (all : List X) (old new : Entries) → Losing all [] old new → Loses (any all) old new
   lost all old new so_far g o = sym (every (holds new g o)) ∙ so_far g o
     where
@@ -41,9 +28,6 @@ module _ {X : Type 0} (test : X → List ℕ → List ℕ → Bool) where
 
 pub keeps_gained : (came : List ℕ → List ℕ → Bool) (old mid new : Entries) → Gains came mid new → Keeps old mid → Keeps old new
 keeps_gained came old mid new gains keeps g o h = gains g o ∙ or_first (holds mid g o) (came g o) (keeps g o h)
-
-pub keeps_same : (old mid new : Entries) → IsSame mid new → Keeps old mid → Keeps old new
-keeps_same old mid new same keeps g o h = same_holds mid new same g o ∙ keeps g o h
 
 -- a part that each test has in common
 

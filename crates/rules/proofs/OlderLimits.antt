@@ -1,5 +1,5 @@
 -- Larger limits refuse no more, and those of today are the machine's.
-use Rattle.rules.proofs.Words.{◌≡◌, ℕ, ◌+◌, ◌≤◌, Bool, true, false, List, [], ◌∷◌, refl, ap, sym, ◌∙◌, arith, ◌||◌, nat_lt, nat_le, if◌then◌else◌, length, map, Some, None, ℤ, list_any, nat_tests, ACTS_MAX, OrderLine, Refusal, ActsFull, Command, Item, Bin, Receive, Move, Count, Adjust, Order, Cancel, Pick, Unpick, Ship, Hold, Release, Recall, OpenDay, Least, Urgent, Act, in_bin, units_in_house, open_units, Judgement, first_refusal, judgement, taken_off, put_on, IsHistory, or_none, Limits, older_limits, newest_limits, AreWithin, is_over_units, is_over_ordered, limited, lines_ordered, exceeds_units, exceeds_wanted, judgement_under, verdict_under, IsHistoryUnder, TodayIsNewest, LimitsMayGrow, OlderHistoriesGoOn}
+use Rattle.rules.proofs.Words.{◌≡◌, ℕ, ◌+◌, ◌≤◌, Bool, true, false, List, [], ◌∷◌, refl, ap, sym, ◌∙◌, arith, ◌||◌, nat_lt, nat_le, if◌then◌else◌, length, map, Some, None, ℤ, list_any, nat_tests, ACTS_MAX, OrderLine, Refusal, ActsFull, Command, Item, Receive, Count, Adjust, Order, Urgent, Act, in_bin, units_in_house, open_units, Judgement, first_refusal, judgement, taken_off, put_on, IsHistory, or_none, Limits, older_limits, newest_limits, AreWithin, is_over_units, is_over_ordered, limited, lines_ordered, exceeds_units, exceeds_wanted, judgement_under, verdict_under, IsHistoryUnder, TodayIsNewest, LimitsMayGrow, OlderHistoriesGoOn}
 
 -- One condition in front
 
@@ -77,22 +77,7 @@ limits_may_grow few more within first (act ∷ before) h = (
 
 judged_today : (first : ℤ) (acts : List Act) (command : Command) → judgement_under newest_limits first acts command ≡ judgement first acts command
 judged_today first acts (Item i) = refl
-judged_today first acts (Bin b) = refl
-judged_today first acts (Receive r) = refl
-judged_today first acts (Move m) = refl
-judged_today first acts (Count c) = refl
-judged_today first acts (Adjust a) = refl
-judged_today first acts (Order o) = refl
-judged_today first acts (Cancel o) = refl
-judged_today first acts (Pick p) = refl
-judged_today first acts (Unpick p) = refl
-judged_today first acts (Ship o) = refl
-judged_today first acts (Hold l) = refl
-judged_today first acts (Release l) = refl
-judged_today first acts (Recall l) = refl
-judged_today first acts (OpenDay day) = refl
-judged_today first acts (Least l) = refl
-judged_today first acts (Urgent o) = refl
+judged_today first acts _ = refl
 
 pub today_is_newest : TodayIsNewest
 today_is_newest first acts command = ap (λ cs. first_refusal ((nat_le ACTS_MAX (length acts), ActsFull) ∷ cs)) (judged_today first acts command)

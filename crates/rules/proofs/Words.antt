@@ -160,7 +160,7 @@ pub use Rattle.rules.specs.Made.{IsMade}
 pub use Rattle.rules.specs.OlderLimits.{Limits, older_limits, newest_limits, AreWithin, is_over_units, is_over_ordered, limited, lines_ordered, exceeds_units, exceeds_wanted, judgement_under, verdict_under, IsHistoryUnder, TodayIsNewest, LimitsMayGrow, OlderHistoriesGoOn}
 pub use Rattle.rules.specs.PostedChanges.{changes_by, bins_changes, replanned_by, stock_after, staged_after, no_facts, rows_after_posting}
 pub use Rattle.rules.specs.Shelf.{bins, stages, rows_gone, Shelf, bin_at, stage_at, taken, brought, rows_posted, keys_posted, rows_put, units_at, row_put, row_gone, units_of, rows_with_units, one_posted, with_key}
-pub use Rattle.rules.specs.Slices.{IsSlice, tables_but_repeats, AreOnce, IsDecision, NamesChangedReservations, changed, plans, names_bin, names_lot, in_bins, on_stages, added, unless_put, ships, picks, names_order, on_named_stage, differs, unless_emptied, has_touched_line, names_reserved}
+pub use Rattle.rules.specs.Slices.{IsSlice, tables_but_repeats, are_once, IsDecision, NamesChangedReservations, changed, plans, names_bin, names_lot, in_bins, on_stages, added, unless_put, ships, picks, names_order, on_named_stage, differs, unless_emptied, has_touched_line, names_reserved}
 unfoldable pub use Rattle.rules.specs.Slices.{applied}
 pub use Rattle.rules.specs.Told.{keys_of, place_of, listed, told_once, shelf_of}
 pub use Rattle.rules.specs.declared.changes.Facts.{Facts}

@@ -1,6 +1,6 @@
 -- What a decision sees of the tables, and what a change makes of them.
 use Rattle.std.specs.Prelude.{◌≡◌, ◌&&◌, ◌||◌, ◌==◌, if◌then◌else◌, ◌∷◌}
-use Rattle.rules.specs.Words.{ℕ, Bool, true, false, not, nat_le, List, [], length, find, Option, Some, None, option_map, Result, Ok, Err, is_some, ℤ, list_any, same_text, LotId, Command, Added, NamedOrder, OrderStep, names_of, is_picked, is_shipped, ITEMS_MAX, BINS_MAX, ReservedRow, no_two, AreRows, same_cell, same_line, same_share, Act, is_lot, items, bins, lines_of, is_open, is_touched, Tables, tables_of, repeat_row, verdict, reply, Put, Rows, Slice, Change, RuleFault, Refused, NoMemory, Foreign}
+use Rattle.rules.specs.Words.{ℕ, Bool, true, false, not, nat_le, List, [], length, find, Option, Some, None, option_map, Result, Ok, Err, is_some, ℤ, list_all, list_any, same_text, LotId, Command, Added, NamedOrder, OrderStep, names_of, is_picked, is_shipped, ITEMS_MAX, BINS_MAX, ReservedRow, no_two, AreRows, same_cell, same_line, same_share, Act, is_lot, items, bins, lines_of, is_open, is_touched, Tables, tables_of, repeat_row, verdict, reply, Put, Rows, Slice, Change, RuleFault, Refused, NoMemory, Foreign}
 use Rattle.commands.specs.declared.names.Added.TheVariants.{Item, Bin}
 
 -- Changes: a row that is put stands, one that is dropped or on a stage that is emptied is gone, and the others stay
@@ -160,22 +160,24 @@ pub record IsSlice (first : ℤ) (act : Act) (acts : List Act) (t : Tables) (s :
   pub reserved : AreRows same_share (λ r. (r.order, r.lot))
       (λ k. names_reserved act.command k.0 k.1) (λ k. names_order act.command k.0 || is_touched first act acts k.1.gtin) (λ k. t.reserved k.0 k.1) s.rows.reserved
 
--- no key twice, so that it does not matter in which order the rows are written
-pub record AreOnce (rows : Put) : Type 0 where
-  pub items : no_two (λ r s. same_text r.gtin s.gtin) rows.items ≡ true
-  pub bins : no_two (λ r s. same_text r.name s.name) rows.bins ≡ true
-  pub lots : no_two (λ r s. is_lot r.lot s.lot) rows.lots ≡ true
-  pub recalls : no_two (λ r s. is_lot r.lot s.lot) rows.recalls ≡ true
-  pub stock : no_two (λ r s. is_lot r.lot s.lot && same_text r.bin s.bin) rows.stock ≡ true
-  pub orders : no_two (λ r s. same_text r.order s.order) rows.orders ≡ true
-  pub lines : no_two (λ r s. same_text r.order s.order && same_text r.gtin s.gtin) rows.lines ≡ true
-  pub staged : no_two (λ r s. same_text r.order s.order && is_lot r.lot s.lot) rows.staged ≡ true
-  pub reserved : no_two (λ r s. same_text r.order s.order && is_lot r.lot s.lot) rows.reserved ≡ true
-  pub shipments : no_two (λ r s. r.number == s.number) rows.shipments ≡ true
-  pub shiplines : no_two (λ r s. (r.number == s.number) && is_lot r.lot s.lot) rows.shiplines ≡ true
-  pub cards : no_two (λ r s. is_lot r.lot s.lot && (r.act == s.act)) rows.cards ≡ true
-  pub least : no_two (λ r s. same_text r.gtin s.gtin) rows.least ≡ true
-  pub urgents : no_two (λ r s. same_text r.order s.order) rows.urgents ≡ true
+-- no key twice in any table, so that it does not matter in which order the rows are written
+abbrev pub are_once : Put → Bool
+are_once rows = list_all (λ b. b) (
+    no_two (λ r s. same_text r.gtin s.gtin) rows.items
+    ∷ no_two (λ r s. same_text r.name s.name) rows.bins
+    ∷ no_two (λ r s. is_lot r.lot s.lot) rows.lots
+    ∷ no_two (λ r s. is_lot r.lot s.lot) rows.recalls
+    ∷ no_two (λ r s. is_lot r.lot s.lot && same_text r.bin s.bin) rows.stock
+    ∷ no_two (λ r s. same_text r.order s.order) rows.orders
+    ∷ no_two (λ r s. same_text r.order s.order && same_text r.gtin s.gtin) rows.lines
+    ∷ no_two (λ r s. same_text r.order s.order && is_lot r.lot s.lot) rows.staged
+    ∷ no_two (λ r s. same_text r.order s.order && is_lot r.lot s.lot) rows.reserved
+    ∷ no_two (λ r s. r.number == s.number) rows.shipments
+    ∷ no_two (λ r s. (r.number == s.number) && is_lot r.lot s.lot) rows.shiplines
+    ∷ no_two (λ r s. is_lot r.lot s.lot && (r.act == s.act)) rows.cards
+    ∷ no_two (λ r s. same_text r.gtin s.gtin) rows.least
+    ∷ no_two (λ r s. same_text r.order s.order) rows.urgents
+    ∷ [])
 
 -- Decisions
 
@@ -189,7 +191,7 @@ IsDecision first act acts (Ok change) =
     (verdict first acts act.command ≡ None)
     × (applied change (tables_of first acts) ≡ tables_but_repeats first act acts)
     × (change.text ≡ reply first act acts)
-    × AreOnce change.put
+    × (are_once change.put ≡ true)
 IsDecision first act acts (Err (Refused why)) = verdict first acts act.command ≡ Some why
 IsDecision first act acts (Err NoMemory) = verdict first acts act.command ≡ None
 IsDecision first act acts (Err Foreign) = ⊥

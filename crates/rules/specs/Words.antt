@@ -1,5 +1,5 @@
 -- What the definitions of this crate say of what it stands on: each word from where it is defined.
-pub use Rattle.std.specs.List.{list_any, cons_option}
+pub use Rattle.std.specs.List.{list_all, list_any, cons_option}
 pub use Rattle.std.specs.Prelude.{ℕ, List, [], nat_le, not, filter, flat_map, Option, Some, None, suc, min, Bool, nat_lt, ℤ, pos, negsuc, int_lt, int_le, true, false, map, find, decimal, neg_ℤ, length, Result, Ok, Err, IsTrue, option_map, is_some}
 pub use Rattle.values.specs.Values.{same_text}
 pub use Rattle.values.specs.declared.lot.LotId.{LotId}

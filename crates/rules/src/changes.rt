@@ -1,6 +1,6 @@
 //! What an act changes that posts once at most.
 
-ghost use Rattle.std.specs.Prelude.{◌≡◌, [], None, IfOk};
+ghost use Rattle.std.specs.Prelude.{◌≡◌, None, IfOk};
 ghost use Rattle.rules.specs.Told.{told_once, shelf_of, keys_of};
 ghost use Rattle.rules.specs.Shelf.{rows_put as rows_put_lem, rows_gone as rows_gone_lem};
 ghost use Rattle.row_rules.specs.Seen.{none_put as none_put_lem};

@@ -2,8 +2,7 @@
 use Rattle.std.specs.Prelude.{Result, Ok, Err}
 use Rattle.histories.specs.declared.fault.HistoryFault.{HistoryFault}
 use Rattle.histories.specs.declared.fault.HistoryFault.TheVariants as history
-use Rattle.command_line.specs.declared.fault.Fault.{Fault}
-use Rattle.command_line.specs.declared.fault.Fault.TheVariants.{Io, Store, Foreign}
+use Rattle.service.specs.Words.{Fault, Io, Store, Foreign}
 
 abbrev pub fault_told : Result Unit HistoryFault → Result Unit Fault
 fault_told (Ok done) = Ok done

@@ -1,18 +1,12 @@
 -- What is left where the books of a line could not be made or opened, and what is told of it.
 use Rattle.std.specs.Prelude.{◌≡◌, ◌≢◌, ◌⊎◌, ◌↔◌, ℤ, List, false}
-use Rattle.sqlite_trees.specs.declared.store.Store.{Ghosts}
-use Rattle.sqlite.specs.Held.{Held, state}
-use Rattle.sqlite.specs.State.{HasCleanDisk, Opens, IsLive}
-use Rattle.machine.specs.Acts.{Act}
-use Rattle.machine.specs.Once.{IsHistory}
+use Rattle.service.specs.Words.{Ghosts, Held, state, HasCleanDisk, Opens, IsLive, Act, IsHistory, Fault, Store, Foreign}
 use Rattle.table_words.specs.Schema.{schema_0}
 use Rattle.books_schema.specs.declared.ready_connection.Leftover.{Leftover}
 use Rattle.books_schema.specs.declared.ready_connection.Leftover.TheVariants.{Connection}
 use Rattle.store.specs.Opening.{Found, HasSchema, IsOfNone, Tells, AreRowsAt, IsForeignWithin, IsCleanLeft, IsLeftOver, IsLeftUnfilled}
 use Rattle.store.specs.declared.fault.Fault.{Fault as BooksFault}
 use Rattle.store.specs.declared.fault.Fault.TheVariants as books
-use Rattle.command_line.specs.declared.fault.Fault.{Fault}
-use Rattle.command_line.specs.declared.fault.Fault.TheVariants.{Store, Foreign}
 
 -- why there are none, as the line tells it
 abbrev pub fault_of_books : BooksFault → Fault

@@ -1,27 +1,18 @@
 -- What importing a goods-in file does to the books, what is kept of it in a second place, and what it tells.
 use Rattle.std.specs.Prelude.{◌≡◌, ◌≢◌, ◌⊎◌, ℕ, ◌++◌, List, codes, decimal, Option, IfSome, Result, Ok, Err, ℤ, IsTrue}
 use Rattle.std.specs.Io.KnownBytes.{Appends}
-use Rattle.sqlite_trees.specs.declared.store.Store.{Ghosts}
-use Rattle.sqlite.specs.Held.{Held, state}
-use Rattle.sqlite.specs.State.{State}
+use Rattle.service.specs.Words.{Ghosts, Held, state, State, Act, IsHistory, RefusedRow, file_outcome, acts_after_file, Connected, AreBooks, HoldsBooks, KeepsBooks, LeavesOnly, Fault, Usage, Label, File, Row, Refused as RefusedText, Audit, Apply, Acts, Value, Io, Store, Foreign, KeepFault}
 use Rattle.commands.specs.declared.key.Key.{Key}
 use Rattle.commands.specs.declared.command.Command.{Command}
-use Rattle.machine.specs.Acts.{Act}
 use Rattle.machine.specs.Standing.{today}
-use Rattle.machine.specs.Once.{IsHistory, RefusedRow, file_outcome, acts_after_file}
 use Rattle.goodsin.specs.Files.{file_read}
 use Rattle.goodsin.specs.declared.fault.FileFault.{FileFault}
 use Rattle.goodsin.specs.declared.fault.FileFault.TheVariants.{Reader, Memory}
-use Rattle.store.specs.Connected.{Connected}
 use Rattle.sqlite.specs.Tree.{Trees}
-use Rattle.store.specs.Books.{AreBooks, HoldsBooks, KeepsBooks, LeavesOnly}
 use Rattle.store.specs.Filing.{rows_of, taken}
 use Rattle.store.specs.declared.tally.Tally.{Tally}
 use Rattle.store.specs.declared.tally.RowFault.{RowFault}
 use Rattle.store.specs.declared.tally.RowFault.TheVariants.{Refused, Store as StoreRow, Foreign as ForeignRow}
-use Rattle.command_line.specs.declared.fault.Fault.{Fault}
-use Rattle.command_line.specs.declared.fault.Fault.TheVariants.{Usage, Label, File, Row, Refused as RefusedText, Audit, Apply, Acts, Value, Io, Store, Foreign}
-use Rattle.house.specs.declared.keeping.KeepFault.{KeepFault}
 use Rattle.service.specs.Kept.{fault_of_keep}
 
 -- what is printed

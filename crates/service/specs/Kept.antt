@@ -1,16 +1,8 @@
 -- What serving a port does to the books, and what a second place keeps of their acts. `keeps` says what it keeps, `leaves` what a
 -- stop leaves of it where it could not keep the acts after, and `begun` is the day from which it counts.
 use Rattle.std.specs.Prelude.{◌≡◌, ◌⊎◌, ℕ, ℤ, List, [], ◌∷◌, ◌++◌, Bool, Option, Result, Ok, Err}
-use Rattle.sqlite_trees.specs.declared.store.Store.{Ghosts}
-use Rattle.sqlite.specs.Held.{Held}
-use Rattle.machine.specs.Acts.{Act}
-use Rattle.store.specs.Connected.{Connected}
-use Rattle.house.specs.House.{Step, Run, StepsTo}
-use Rattle.house.specs.Serving.{IsLogged}
-use Rattle.house.specs.declared.keeping.KeepFault.{KeepFault}
+use Rattle.service.specs.Words.{Ghosts, Held, Act, Connected, Step, Run, StepsTo, IsLogged, KeepFault, Fault, Acts, Io, Store}
 use Rattle.house.specs.declared.keeping.KeepFault.TheVariants as keep
-use Rattle.command_line.specs.declared.fault.Fault.{Fault}
-use Rattle.command_line.specs.declared.fault.Fault.TheVariants.{Acts, Io, Store}
 use Rattle.service.specs.Serving.{HasLogged, KeepsLogged}
 use Rattle.service.specs.declared.serve.Stopped.{Stopped}
 use Rattle.service.specs.declared.serve.Stopped.TheVariants.{Log, Unkept}

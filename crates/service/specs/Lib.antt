@@ -1,3 +1,4 @@
+mod Words
 pub mod Failing
 pub mod Serving
 pub mod Kept

@@ -1,20 +1,15 @@
 -- What printing a text of a lot comes to.
 use Rattle.std.specs.Prelude.{◌≡◌, ℕ, List, Option, Result, Ok, Err, ℤ}
 use Rattle.values.specs.declared.lot.LotId.{LotId}
-use Rattle.sqlite_trees.specs.declared.store.Store.{Ghosts}
-use Rattle.sqlite.specs.Held.{Held}
+use Rattle.service.specs.Words.{Ghosts, Held, Act, Connected, Fault, Refused, Io, Store, Foreign}
 use Rattle.commands.specs.declared.refusal.Refusal.{Refusal}
-use Rattle.machine.specs.Acts.{Act}
 use Rattle.machine.specs.Queries.{card_shown, notice_shown}
 use Rattle.texts.specs.Card.{card_text}
 use Rattle.texts.specs.Notice.{notice_text}
-use Rattle.store.specs.Connected.{Connected}
 use Rattle.store.specs.declared.fault.Fault.TheVariants as books
 use Rattle.store.specs.declared.each_fault.EachFault.{EachFault}
 use Rattle.store.specs.declared.each_fault.EachFault.TheVariants as each
 use Rattle.house.specs.LotTexts.{Tells}
-use Rattle.command_line.specs.declared.fault.Fault.{Fault}
-use Rattle.command_line.specs.declared.fault.Fault.TheVariants.{Refused, Io, Store, Foreign}
 use Rattle.service.specs.declared.books_lines.Sheet.{Sheet}
 use Rattle.service.specs.declared.books_lines.Sheet.TheVariants.{Card, Notice}
 

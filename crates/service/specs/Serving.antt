@@ -1,18 +1,9 @@
 -- What serving a port does to the books, and what is told of it.
 use Rattle.std.specs.Prelude.{◌≡◌, ◌⊎◌, ◌≤◌, ℕ, ℤ, List, [], ◌∷◌, length, zip, Bool, true, Option, Result, Ok, Err, ◌++◌, codes}
 use Rattle.std.specs.Fmt.{decimal}
-use Rattle.sqlite_trees.specs.declared.store.Store.{Ghosts}
-use Rattle.sqlite.specs.Held.{Held, state}
-use Rattle.machine.specs.Acts.{Act}
-use Rattle.machine.specs.Once.{IsHistory}
-use Rattle.store.specs.Connected.{Connected}
-use Rattle.store.specs.Books.{KeepsBooks}
+use Rattle.service.specs.Words.{Ghosts, Held, state, Act, IsHistory, Connected, KeepsBooks, Run, RunsTo, LeavesBooks, HasLine, Fault, Usage, Label, File, Row, Refused, Audit, Apply, Acts, Value, Io, Store, Foreign}
 use Rattle.texts.specs.Writing.{AppendsBeginning}
 use Rattle.wire.specs.Logging.{log_line}
-use Rattle.house.specs.House.{Run, RunsTo, LeavesBooks}
-use Rattle.house.specs.Serving.{HasLine}
-use Rattle.command_line.specs.declared.fault.Fault.{Fault}
-use Rattle.command_line.specs.declared.fault.Fault.TheVariants.{Usage, Label, File, Row, Refused, Audit, Apply, Acts, Value, Io, Store, Foreign}
 
 -- the books are those of the acts after a run over so many texts at most
 pub record HasServed {S : Type 0} (g : Ghosts S) (first : ℤ) (acts : List Act) (max : ℕ) (was books : Connected S) : Type 0 where

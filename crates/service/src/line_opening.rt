@@ -6,7 +6,7 @@ ghost use Rattle.machine.specs.Acts.{Act};
 ghost use Rattle.machine.specs.Once.{IsHistory};
 ghost use Rattle.store.specs.Books.{KeepsBooks, HoldsBooks, IsClean, LeavesOnly};
 ghost use Rattle.store.specs.Opening.{IsOfNone, AreFoundRows};
-ghost use Rattle.service.specs.Failing.{fault_of_books as fault_of_books_lem, IsOfBooks, IsUnmade, IsUnopened};
+ghost use Rattle.service.specs.Failing.{fault_of_books as fault_of_books_lem, IsUnmade, IsUnopened};
 
 use books_schema::ready_connection::{Leftover, Orderly};
 use command_line::Fault;

@@ -1,7 +1,6 @@
 -- The orders that may be open: as they are read, without those of which a row tells that they are closed, and with those of a change.
-use Rattle.slices.proofs.Words.{◌≡◌, ℕ, Bool, true, false, ◌&&◌, not, List, [], ◌∷◌, map, filter, refl, ap, sym, subst, ◌∙◌, ◌||◌, if◌then◌else◌, find, Option, Some, None, is_some, list_any, same_text, Tables, OrderRow, UrgentRow, LineRow, OrderState, Open, Done, Cancelled, Entries, holds, Gains, Loses, has_line_row, is_closed_state, has_closed_row, only_if, OrderKey, same_order, order_key, is_open_order, UrgentKey, same_urgent, urgent_key, LineKey, same_line, line_key, is_open_state, AreOwn, and_both, or_first, or_later, same_text_is, same_text_refl, same_text_turned, Put, is_among, is_passed, is_open_in, with_names, other_names, has_urgent_row, urgent_lines, opens, opened_by, comes, Covers, CoversUrgent, AreAllLines, AreUrgents, AreNamed, AreKnownOrders, AreOpenLines, AreLinesPut, AreUrgentsPut, Knows, Known}
+use Rattle.slices.proofs.Words.{◌≡◌, ℕ, Bool, true, false, ◌&&◌, not, List, [], ◌∷◌, map, filter, refl, ap, sym, subst, ◌∙◌, ◌||◌, if◌then◌else◌, find, Option, Some, None, is_some, list_any, same_text, Tables, OrderRow, UrgentRow, LineRow, OrderState, Open, Done, Cancelled, Entries, holds, Gains, Loses, has_line_row, is_closed_state, has_closed_row, only_if, OrderKey, same_order, order_key, is_open_order, UrgentKey, same_urgent, urgent_key, LineKey, same_line, line_key, is_open_state, AreOwn, and_both, or_first, or_later, same_text_is, same_text_refl, same_text_turned, Put, is_among, is_passed, is_open_in, with_names, other_names, has_urgent_row, urgent_lines, opens, opened_by, comes, Covers, CoversUrgent, AreAllLines, AreUrgents, AreNamed, AreKnownOrders, AreOpenLines, AreLinesPut, AreUrgentsPut, Knows, Known, Each}
 use Rattle.table_words.specs.Found as read
-use Rattle.slices.specs.Slicing.{Each}
 use Rattle.slices.proofs.Counted.{any_mapped}
 use Rattle.slices.proofs.KnownOrders.{any_more, among_others}
 use Rattle.slices.proofs.OwnRows.{any_kept}

@@ -1,7 +1,6 @@
 -- The rows of the order named, and of the open orders that have a line of an item, are those of a slice.
-use Rattle.slices.proofs.Words.{◌≡◌, ℕ, Bool, true, false, ◌&&◌, not, List, [], ◌∷◌, ◌++◌, refl, ap, sym, subst, ◌∙◌, ◌||◌, if◌then◌else◌, find, Option, Some, None, is_some, list_any, same_text, Tables, OrderRow, LineRow, Entries, orders_at, are_apart, apart_kept, OrderKey, same_order, order_key, LineKey, same_line, line_key, AreRows, AreOwn, no_two, and_both, and_false, same_text_is, same_text_refl, is_among, with_names, listed, other_names, has_line_in, is_open_in, Covers, AreLinesOfItem, AreLinesOfItems, AreOrders, AreKnownOrders}
+use Rattle.slices.proofs.Words.{◌≡◌, ℕ, Bool, true, false, ◌&&◌, not, List, [], ◌∷◌, ◌++◌, refl, ap, sym, subst, ◌∙◌, ◌||◌, if◌then◌else◌, find, Option, Some, None, is_some, list_any, same_text, Tables, OrderRow, LineRow, Entries, orders_at, are_apart, apart_kept, OrderKey, same_order, order_key, LineKey, same_line, line_key, AreRows, AreOwn, no_two, and_both, and_false, same_text_is, same_text_refl, is_among, with_names, listed, other_names, has_line_in, is_open_in, Covers, AreLinesOfItem, AreLinesOfItems, AreOrders, AreKnownOrders, Each}
 use Rattle.table_words.specs.Found as read
-use Rattle.slices.specs.Slicing.{Each}
 use Rattle.slices.proofs.KeysTold.{same_line_is, same_line_refl}
 use Rattle.slices.proofs.RowsTold.{and_true, or_true, rows_read, rows_joined, rows_as, any_read, one_read}
 use Rattle.slices.proofs.SeekSteps.{each_read}

@@ -1,5 +1,5 @@
 -- What is known of the rows of a table, with the rows of a change, is so of the tables that the change leaves.
-use Rattle.slices.proofs.Words.{◌≡◌, Bool, true, false, inl, inr, List, [], ◌∷◌, Option, Some, None, sym, subst, ◌∙◌, if◌then◌else◌, IfSome, is_eq, Ordering, cases_Bool, Tables, IsSame, each_written, RowMap, rows_at, without_row, with_put, each_changed, ChangesBy, Remembers}
+use Rattle.slices.proofs.Words.{◌≡◌, Bool, true, inl, inr, List, [], ◌∷◌, Option, Some, None, sym, subst, ◌∙◌, if◌then◌else◌, IfSome, is_eq, Ordering, cases_Bool, Tables, IsSame, each_written, RowMap, rows_at, without_row, with_put, each_changed, ChangesBy, Remembers}
 use Rattle.table_words.specs.Found.{AreRows}
 use Rattle.slices.proofs.RowsChanged.{put_are, dropped_are, others_are}
 

@@ -9,6 +9,7 @@ pub mod RowsAmong
 pub mod Counted
 pub mod AtMost
 pub mod RowsTold
+pub mod LinesFilled
 pub mod SeekSteps
 pub mod KeysTold
 pub mod KeysRead

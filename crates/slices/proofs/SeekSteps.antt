@@ -1,8 +1,6 @@
 -- Rows sought by texts, and lines of orders, one after another.
-use Rattle.slices.proofs.Words.{◌≡◌, ℕ, ◌+◌, ◌<◌, length, map, take, Option, Bool, true, false, ◌&&◌, not, List, [], ◌∷◌, ◌++◌, Ok, refl, ap, sym, subst, ◌∙◌, ◌||◌, get_or, map_more, list_any, same_text, State, LineRow, no_two, and_both, and_false, not_true, same_text_is, same_text_turned, IsRead, is_among, listed, AreLinesOf, AreLinesFor}
-use Rattle.table_words.specs.Typed.{Tables}
+use Rattle.slices.proofs.Words.{◌≡◌, ℕ, ◌+◌, ◌<◌, length, map, take, Option, Bool, true, false, ◌&&◌, not, List, [], ◌∷◌, ◌++◌, Ok, refl, ap, sym, subst, ◌∙◌, ◌||◌, get_or, map_more, list_any, same_text, State, LineRow, no_two, and_both, and_false, not_true, same_text_is, same_text_turned, IsRead, is_among, listed, AreLinesOf, AreLinesFor, Each}
 use Rattle.table_words.specs.Found as read
-use Rattle.slices.specs.Slicing.{Each}
 use Rattle.slices.proofs.ReadSteps.{then_answers}
 use Rattle.slices.proofs.KnownSteps.{each_more, place}
 use Rattle.slices.proofs.RowsTold.{read_none, read_both}

@@ -1,5 +1,5 @@
 -- What the read of a slice tells.
-use Rattle.slices.proofs.Words.{◌≡◌, ◌&&◌, List, [], ◌∷◌, Result, Ok, Err, IfOk, IfErr, IsTrue, sym, subst, Tables, Command, Pick, Ship, State, HasCleanDisk, IsReady, tables_in, TableFault, Rows, Slice, Entries, Loses, has_closed_row, has_line_row, IsRead, AreBounds, with_counts, KnowsRows, KnowsNoRows, Learning, HoldsOf, IsSliceOf, IsSliceIn, AreSliced, orders_named, Bounds, Known, RowsKnown}
+use Rattle.slices.proofs.Words.{◌≡◌, ◌&&◌, [], ◌∷◌, Result, Ok, Err, IfOk, IfErr, IsTrue, sym, subst, Tables, Command, Pick, Ship, State, HasCleanDisk, IsReady, tables_in, TableFault, Rows, Slice, Entries, Loses, has_closed_row, has_line_row, IsRead, AreBounds, with_counts, KnowsRows, KnowsNoRows, Learning, HoldsOf, IsSliceOf, IsSliceIn, AreSliced, orders_named, Bounds, Known, RowsKnown}
 use Rattle.slices.proofs.ReadSteps.{as_told}
 use Rattle.slices.proofs.AtMost.{bounds_counted}
 use Rattle.slices.proofs.Covering.{StaysKnown, known_met, known_shipped, known_picked}

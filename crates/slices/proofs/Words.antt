@@ -6,7 +6,7 @@ pub use Rattle.std.specs.Ordering.{is_eq, nat_cmp}
 pub use Rattle.std.specs.Prelude.{nat_le, is_some, ◌||◌, if◌then◌else◌, ◌==◌, nat_lt, option_map, ℤ, pos, ◌+ℤ◌, bytes_eq, get_or, IfSome, IsErr, IsErrAnd, IsSome, reverse, slice_get}
 pub use Rattle.std.specs.declared.cmp.Ordering.{Ordering}
 pub use Rattle.std.proofs.Common.{◌≡◌, inl, inr, ℕ, ◌<◌, ◌≤◌, true, List, map, length, refl, ap, sym, subst, ◌∙◌, arith, find, Option, ◌+◌, Bool, false, ◌&&◌, not, [], ◌∷◌, filter, Some, None, ◌++◌, take, Result, Ok, append_assoc, Err, OnOk, OnErr, IfOk, IsTrue, IfErr, rules, Vec, Global, drop}
-pub use Rattle.std.proofs.lemmas.Bool.{cases_Bool}
+pub use Rattle.std.proofs.lemmas.Bool.{cases_Bool, eqb-true}
 pub use Rattle.std.proofs.lemmas.Bool.Decides.{nat_tests}
 pub use Rattle.std.proofs.lemmas.List.{take_more, map_more, take_all}
 pub use Rattle.sqlite.specs.Effect.{Database}
@@ -87,13 +87,14 @@ pub use Rattle.table_words.specs.Typed.{item_key, bin_key, OrderKey, same_order,
 pub use Rattle.table_words.specs.declared.error.TableFault.{TableFault}
 pub use Rattle.table_words.specs.declared.error.TableFault.TheVariants.{Store, Foreign}
 pub use Rattle.table_words.proofs.CallLemmas.{kept_unchanged, kept_itself, kept_then, inside_then}
-pub use Rattle.table_words.proofs.KeyLemmas.{IsSame, first_row, itself_both, itself_bytes}
+pub use Rattle.table_words.proofs.KeyLemmas.{IsSame, first_row, itself_both, itself_bytes, same_bytes}
 pub use Rattle.keyed_rows.specs.Writes.{each_written}
 pub use Rattle.keyed_rows.proofs.Laws.{typed_rows}
+pub use Rattle.keyed_rows.specs.Described.{with_row}
 pub use Rattle.tables.specs.Bins.{AreBinsOf}
 pub use Rattle.tables.specs.Items.{AreItemsOf}
 pub use Rattle.tables.specs.Least.{is_asking, AreLeastOf}
-pub use Rattle.tables.specs.Lines.{AreLinesOfOrder, AreLineOf}
+pub use Rattle.tables.specs.Lines.{AreLinesOfOrder, AreLineOf, lines, lines_laws, filled_line, lines_filled}
 pub use Rattle.tables.specs.Lots.{AreLotOf}
 pub use Rattle.tables.specs.Meta.{meta, meta_laws}
 pub use Rattle.tables.specs.Orders.{AreOrdersOf}
@@ -113,3 +114,4 @@ pub use Rattle.slices.specs.declared.followed.Followed.{Followed}
 pub use Rattle.slices.specs.declared.knowing.Bounds.{Bounds}
 pub use Rattle.slices.specs.declared.knowing.Known.{Known}
 pub use Rattle.slices.specs.declared.rows_known.RowsKnown.{RowsKnown}
+pub use Rattle.slices.specs.Filling.{is_filled, FillsLines}

@@ -1,12 +1,8 @@
 -- How many items and bins there may be.
 use Rattle.std.specs.Prelude.{◌≡◌, ℕ, ◌+◌, ◌<◌, ◌≤◌, ◌⊎◌, Bool, true, List, length, Option, Some, None, is_some}
-use Rattle.commands.specs.Tables.{Tables}
-use Rattle.commands.specs.declared.command.Command.{Command}
+use Rattle.slices.specs.Words.{Tables, Command, names_of, ITEMS_MAX, BINS_MAX, Put}
 use Rattle.commands.specs.declared.names.Added.{Added}
 use Rattle.commands.specs.declared.names.Added.TheVariants.{Item, Bin}
-use Rattle.commands.specs.Names.{names_of}
-use Rattle.commands.specs.declared.limits.TheConstants.{ITEMS_MAX, BINS_MAX}
-use Rattle.row_rules.specs.declared.slice.Put.{Put}
 use Rattle.rows_in_memory.specs.Parts.{is_among}
 use Rattle.slices.specs.Reading.{IsCount}
 use Rattle.slices.specs.declared.knowing.Bounds.{Bounds}

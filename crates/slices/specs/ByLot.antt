@@ -1,12 +1,7 @@
 -- Rows sought by lots.
 use Rattle.std.specs.Prelude.{List}
-use Rattle.values.specs.declared.lot.LotId.{LotId}
-use Rattle.commands.specs.Tables.{Tables}
-use Rattle.commands.specs.declared.rows.LotRow.{LotRow}
-use Rattle.commands.specs.declared.rows.StockRow.{StockRow}
+use Rattle.slices.specs.Words.{LotId, Tables, LotRow, StockRow, AreRows, same_lot_id, LotKey, same_lot, lot_key, StockKey, same_stock, stock_key}
 use Rattle.slices.specs.Reading.{Each}
-use Rattle.table_words.specs.Found.{AreRows}
-use Rattle.table_words.specs.Typed.{same_lot_id, LotKey, same_lot, lot_key, StockKey, same_stock, stock_key}
 
 -- the rows of lots, and their stock
 abbrev pub AreLotsOf : List LotId → Tables → List LotRow → Type 0

@@ -2,22 +2,13 @@
 use Rattle.std.specs.Prelude.{◌≡◌, ◌⊎◌, ℕ, List, reverse, Option, Some, None, IfSome}
 use Rattle.std.specs.Ordering.{nat_cmp}
 use Rattle.std.specs.Cmp.Lexicographic.{slice_cmp}
-use Rattle.commands.specs.Tables.{Tables}
-use Rattle.commands.specs.declared.rows.LineRow.{LineRow}
-use Rattle.commands.specs.declared.rows.LotRow.{LotRow}
-use Rattle.commands.specs.declared.rows.MetaRow.{MetaRow}
-use Rattle.commands.specs.declared.rows.OrderRow.{OrderRow}
-use Rattle.commands.specs.declared.rows.ReservedRow.{ReservedRow}
-use Rattle.commands.specs.declared.rows.StagedRow.{StagedRow}
-use Rattle.commands.specs.declared.rows.StockRow.{StockRow}
-use Rattle.commands.specs.declared.rows.UrgentRow.{UrgentRow}
+use Rattle.slices.specs.Words.{Tables, LineRow, LotRow, MetaRow, OrderRow, ReservedRow, StagedRow, StockRow, UrgentRow, Put, RowMap, rows_at, KnowsNone, ForgetsAt, ChangesBy, Remembers, with_put, without_row}
 use Rattle.values.specs.declared.lot_key.LotKey.{LotKey}
 use Rattle.rows_in_memory.specs.LotOrder.{lot_key as turned_lot, lot_key_cmp}
 use Rattle.rows_in_memory.specs.declared.line_keys.LineKey.{LineKey}
 use Rattle.rows_in_memory.specs.LineOrder.{turned_line, line_key_cmp}
 use Rattle.row_rules.specs.declared.slice.Change.{Change}
 use Rattle.row_rules.specs.declared.slice.Dropped.{Dropped}
-use Rattle.row_rules.specs.declared.slice.Put.{Put}
 use Rattle.tables.specs.Lots.{AreLotOf, AreLotsOf}
 use Rattle.tables.specs.Stock.{AreStockOf}
 use Rattle.tables.specs.Lines.{AreLinesOfOrder, AreLineOf}
@@ -26,7 +17,6 @@ use Rattle.tables.specs.Reserved.{AreReservedOfItem, AreReservedOfOrder}
 use Rattle.tables.specs.Staged.{AreStagedOfItem, AreStagedOfOrder}
 use Rattle.tables.specs.Urgents.{AreUrgentsOf}
 use Rattle.rows_in_memory.specs.Keyed.{same_lot_row, same_stock_row, same_order_row, same_urgent_row, same_line_row, same_staged_row, same_reserved_row}
-use Rattle.rows_in_memory.specs.KnownRows.{RowMap, rows_at, KnowsNone, ForgetsAt, ChangesBy, Remembers, with_put, without_row}
 use Rattle.slices.specs.declared.followed.Followed.{Followed}
 
 -- What is known of one table is so

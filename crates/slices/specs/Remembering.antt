@@ -1,18 +1,11 @@
 -- The rows that are known by what they were sought by, and reads that are answered from them.
-use Rattle.std.specs.Prelude.{◌≡◌, ℕ, List, reverse}
+use Rattle.std.specs.Prelude.{ℕ, List, reverse}
 use Rattle.std.specs.Ordering.{nat_cmp}
 use Rattle.std.specs.Cmp.Lexicographic.{slice_cmp}
-use Rattle.commands.specs.Tables.{Tables}
-use Rattle.commands.specs.declared.rows.BinRow.{BinRow}
-use Rattle.commands.specs.declared.rows.ItemRow.{ItemRow}
-use Rattle.commands.specs.declared.rows.LeastRow.{LeastRow}
-use Rattle.commands.specs.declared.rows.RecallRow.{RecallRow}
-use Rattle.row_rules.specs.declared.slice.Put.{Put}
+use Rattle.slices.specs.Words.{Tables, BinRow, ItemRow, LeastRow, RecallRow, Put, AreLeastOf, RowMap, KnowsNone, ForgetsBy, Remembers}
 use Rattle.tables.specs.Bins.{AreBinsOf}
 use Rattle.tables.specs.Items.{AreItemsOf}
-use Rattle.tables.specs.Least.{AreLeastOf}
 use Rattle.tables.specs.Recalls.{AreRecallsOf}
-use Rattle.rows_in_memory.specs.KnownRows.{RowMap, KnowsNone, ForgetsBy, Remembers}
 use Rattle.slices.specs.Reading.{Knowing}
 use Rattle.slices.specs.Following.{KnowsFollowed, KnowsNoneFollowed}
 use Rattle.slices.specs.declared.rows_known.RowsKnown.{RowsKnown}

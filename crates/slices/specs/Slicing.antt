@@ -1,36 +1,14 @@
 -- The rows that a slice is made of.
 use Rattle.std.specs.Prelude.{◌≡◌, ℕ, ℤ, Bool, true, false, ◌&&◌, ◌||◌, List, [], ◌∷◌, ◌++◌, map, filter, Option, Some, None, is_some}
 use Rattle.values.specs.Values.{same_text}
-use Rattle.values.specs.declared.lot.LotId.{LotId}
-use Rattle.commands.specs.Names.{names_of}
-use Rattle.commands.specs.Tables.{Tables}
+use Rattle.slices.specs.Words.{LotId, names_of, Tables, Command, ITEMS_MAX, BINS_MAX, MetaRow, ItemRow, LeastRow, BinRow, LotRow, RecallRow, StockRow, OrderRow, UrgentRow, LineRow, StagedRow, ReservedRow, AreRows, only_if, same_lot_id, ItemKey, same_item, item_key, LeastKey, same_least, least_key, BinKey, same_bin, bin_key, LotKey, same_lot, lot_key, RecallKey, same_recall, recall_key, StockKey, same_stock, stock_key, OrderKey, same_order, order_key, is_open_order, UrgentKey, same_urgent, urgent_key, LineKey, same_line, line_key, StagedKey, same_staged, staged_key, ReservedKey, same_reserved, reserved_key, is_asking, Act, tables_of, Put}
 use Rattle.commands.specs.declared.key.Key.{Key}
-use Rattle.commands.specs.declared.command.Command.{Command}
 use Rattle.commands.specs.declared.command.Command.TheVariants.{Pick, Ship}
 use Rattle.commands.specs.declared.command.Picking.{Picking}
-use Rattle.commands.specs.declared.limits.TheConstants.{ITEMS_MAX, BINS_MAX}
-use Rattle.commands.specs.declared.rows.MetaRow.{MetaRow}
-use Rattle.commands.specs.declared.rows.ItemRow.{ItemRow}
-use Rattle.commands.specs.declared.rows.LeastRow.{LeastRow}
-use Rattle.commands.specs.declared.rows.BinRow.{BinRow}
-use Rattle.commands.specs.declared.rows.LotRow.{LotRow}
-use Rattle.commands.specs.declared.rows.RecallRow.{RecallRow}
-use Rattle.commands.specs.declared.rows.StockRow.{StockRow}
-use Rattle.commands.specs.declared.rows.OrderRow.{OrderRow}
-use Rattle.commands.specs.declared.rows.UrgentRow.{UrgentRow}
-use Rattle.commands.specs.declared.rows.LineRow.{LineRow}
-use Rattle.commands.specs.declared.rows.StagedRow.{StagedRow}
-use Rattle.commands.specs.declared.rows.ReservedRow.{ReservedRow}
-use Rattle.table_words.specs.Found.{AreRows, only_if}
-use Rattle.table_words.specs.Typed.{same_lot_id, ItemKey, same_item, item_key, LeastKey, same_least, least_key, BinKey, same_bin, bin_key, LotKey, same_lot, lot_key, RecallKey, same_recall, recall_key, StockKey, same_stock, stock_key, OrderKey, same_order, order_key, is_open_order, UrgentKey, same_urgent, urgent_key, LineKey, same_line, line_key, StagedKey, same_staged, staged_key, ReservedKey, same_reserved, reserved_key}
-use Rattle.tables.specs.Least.{is_asking}
 use Rattle.rows_in_memory.specs.OpenLines.{Entries, orders_at, holds, are_apart, Gains, has_line_row}
-use Rattle.machine.specs.Acts.{Act}
 use Rattle.machine.specs.Once.{IsHistory}
-use Rattle.machine.specs.Tables.{tables_of}
 use Rattle.rules.specs.Slices.{IsSlice, counts_items, counts_bins}
 use Rattle.row_rules.specs.declared.slice.Rows.{Rows}
-use Rattle.row_rules.specs.declared.slice.Put.{Put}
 use Rattle.row_rules.specs.declared.slice.Slice.{Slice}
 use Rattle.slices.specs.Bounding.{IsToldNumber, AreBounds}
 use Rattle.slices.specs.Remembering.{KnowsRows}

@@ -11,6 +11,7 @@ mod known_lists;
 mod known_orders;
 mod known_read;
 mod one_table;
+mod order_filled;
 mod order_slices;
 mod picks;
 mod rows_known;

@@ -1,6 +1,5 @@
 -- The rows of `repeats` in the books of a history.
-use Rattle.store.proofs.Words.{◌≡◌, ℕ, List, find, refl, ap, ◌∙◌, Some, min, ℤ, pos, AllByRecursion, same_text, RepeatRow, State, Database, Act, tables_of, repeat_row, typed, tables_in, itself_bytes, same_bytes, typed_some, repeats, repeats_laws, IsBooksOf, stored_above, Upper, is_in, half_of, AreAll, typed_rows_of, typed_are_all, owned}
-use Rattle.machine.specs.Tables.{Tables}
+use Rattle.store.proofs.Words.{◌≡◌, ℕ, List, find, refl, ap, ◌∙◌, Some, min, ℤ, pos, AllByRecursion, same_text, RepeatRow, State, Database, Act, tables_of, repeat_row, typed, tables_in, itself_bytes, same_bytes, typed_some, repeats, repeats_laws, IsBooksOf, stored_above, Upper, is_in, half_of, AreAll, typed_rows_of, typed_are_all, owned, Tables}
 use Rattle.whole_tables.specs.Whole.{rows_of}
 
 module _ (first : ℤ) (acts : List Act) (s : State) (books : IsBooksOf first acts s.now) where

@@ -1,5 +1,5 @@
 -- The rows that follow what is written are those of the tables that a change leaves.
-use Rattle.store.proofs.Words.{◌≡◌, ℕ, Bool, true, false, inl, inr, List, refl, sym, ap, subst, ◌∙◌, bytes_eq, if◌then◌else◌, reverse, Option, Some, None, IfSome, nat_cmp, is_eq, Ordering, slice_cmp, same_text, Tables, MetaRow, RepeatRow, StagedRow, AreRows, same_lot, same_line, same_staged, staged_key, with_repeat, without_staged, Change, turned_line, line_key_cmp, lines_told, turned_lot, lot_key_cmp, lots_told, names_told, with_row, without_row, each_written, AreStagedOfItem, AreStagedOfOrder, staged_laws, TableName, Meta, Lots, Orders, Urgents, Lines, Stock, Staged, Reserved, family, Row, described, look, puts, drops, stage_emptied, emptied, table_written, change_written, table_left, is_at, are_same, RowMap, rows_at, ChangesBy, Remembers, with_put, without_listed, remembers_none, known_as, known_put, known_dropped, KnowsStaged, KnowsStagedFor, KnowsMeta, KnowsFollowed, StageLeft, StagedFollows, StageForgotten, StagedForFollows, Follows, Followed}
+use Rattle.store.proofs.Words.{◌≡◌, ℕ, Bool, true, false, inl, inr, List, refl, sym, ap, subst, ◌∙◌, if◌then◌else◌, reverse, Option, Some, None, IfSome, nat_cmp, is_eq, Ordering, slice_cmp, same_text, Tables, MetaRow, RepeatRow, StagedRow, AreRows, same_lot, same_line, same_staged, staged_key, with_repeat, without_staged, Change, turned_line, line_key_cmp, lines_told, turned_lot, lot_key_cmp, lots_told, names_told, with_row, without_row, each_written, AreStagedOfItem, AreStagedOfOrder, staged_laws, TableName, Meta, Lots, Orders, Urgents, Lines, Stock, Staged, Reserved, family, Row, described, look, puts, drops, stage_emptied, emptied, table_written, change_written, table_left, is_at, are_same, RowMap, rows_at, ChangesBy, Remembers, with_put, without_listed, remembers_none, known_as, known_put, known_dropped, KnowsStaged, KnowsStagedFor, KnowsMeta, KnowsFollowed, StageLeft, StagedFollows, StageForgotten, StagedForFollows, Follows, Followed}
 use Rattle.whole_tables.specs.Family.{Key}
 use Rattle.store.proofs.StageEmptied.{staged_at, without_order, rows_gone, others_stay}
 

@@ -1,5 +1,5 @@
 -- Records of the books handed to a sink, outside every transaction.
-use Rattle.store.proofs.Words.{◌≡◌, ℕ, List, [], inl, inr, refl, sym, subst, ◌∙◌, arith, ◌≢◌, ◌⊎◌, ℤ, Result, Ok, Err, IsTrue, State, HasCleanDisk, KeepsCommit, Survives, IsUnchanged, IsRolledBack, Error, survives_then, survives_weaker, Act, IsHistory, IsReady, kept_itself, kept_unchanged, kept_undone, kept_then, IsBooksOf, RowsFault, HandsOver, IsLeft, KeepsBooks, IsSettled, each_fault_of, IsHandedOn, NoBooks, Store, EachFault}
+use Rattle.store.proofs.Words.{◌≡◌, ℕ, List, [], inl, inr, refl, sym, subst, ◌∙◌, arith, ◌≢◌, ◌⊎◌, ℤ, Result, Ok, Err, IsTrue, State, HasCleanDisk, KeepsCommit, Survives, IsUnchanged, IsRolledBack, Error, survives_then, survives_weaker, Act, IsReady, kept_itself, kept_unchanged, kept_undone, kept_then, IsBooksOf, RowsFault, HandsOver, IsLeft, KeepsBooks, IsSettled, each_fault_of, IsHandedOn, NoBooks, Store, EachFault}
 use Rattle.sqlite.specs.State.{IsNotRun}
 use Rattle.sqlite_value.specs.Order.{Row}
 use Rattle.table_words.specs.declared.error.TableFault.TheVariants as table

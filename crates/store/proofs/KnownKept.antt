@@ -87,19 +87,19 @@ module _ (known put after : Known) (change : Change) (row : RepeatRow) (keeps : 
         rows = rows_written change row t known.rows put.rows after.rows.followed forgets follows (followed holds.rows.followed) holds.rows;
       })
 
-  pub known_written : {X E : Type 0} (r : Result X E) (old mid new : State) → IsUnchanged old mid → (KnowsFollowed (tables_in old.now.trees) known.rows.followed → KnowsFollowed (tables_in old.now.trees) put.rows.followed)
+  pub known_written : {X E : Type 0} (to : Tables → Tables) (r : Result X E) (old mid new : State) → IsUnchanged old mid → (KnowsFollowed (tables_in old.now.trees) known.rows.followed → KnowsFollowed (tables_in old.now.trees) put.rows.followed)
       → (KnowsFollowed (tables_in old.now.trees) known.rows.followed → Knows change.put (tables_in old.now.trees) put) → IfOk r (λ _. Follows change put.rows.followed after.rows.followed) → IfErr r (λ _. after ≡ put)
-      → IfOk r (λ _. Goes (λ t. with_repeat row (change_written change t)) mid new) → LeavesKnown (Some known) (Some after) r old new
-  known_written (Ok x) old mid new unchanged followed knows follows unwritten goes = record {
+      → (HoldsOf known (tables_in old.now.trees) → to (tables_in old.now.trees) ≡ change_written change (tables_in old.now.trees)) → IfOk r (λ _. Goes (λ t. with_repeat row (to t)) mid new) → LeavesKnown (Some known) (Some after) r old new
+  known_written to (Ok x) old mid new unchanged followed knows follows unwritten made goes = record {
     before = left_written (tables_in old.now.trees) followed;
     answered = (
       unchanged.0.was_open,
       goes.ready,
       goes.mode ∙ unchanged.0.mode,
-      λ holds. subst (λ (t : Tables). HoldsOf after t) (sym (goes.tables ∙ ap (λ (db : Database). with_repeat row (change_written change (tables_in db.trees))) unchanged.0.now_is)) (holds_written (tables_in old.now.trees) followed knows follows holds),
+      λ holds. subst (λ (t : Tables). HoldsOf after t) (sym (goes.tables ∙ ap (λ (db : Database). with_repeat row (to (tables_in db.trees))) unchanged.0.now_is ∙ ap (with_repeat row) (made holds))) (holds_written (tables_in old.now.trees) followed knows follows holds),
     );
   }
-  known_written (Err e) old mid new unchanged followed knows follows unwritten goes = record {
+  known_written to (Err e) old mid new unchanged followed knows follows unwritten made goes = record {
     before = λ holds. subst (λ (k : Known). HoldsOf k (tables_in old.now.trees)) (sym unwritten) (holds_more known put change.put (tables_in old.now.trees) keeps keeps_urgent raised forgets followed holds);
     answered = tt;
   }

@@ -22,6 +22,7 @@ pub mod StageEmptied
 pub mod FollowedWritten
 pub mod RowsWritten
 pub mod KnownKept
+pub mod LinesFilled
 pub mod KnownShown
 pub mod BooksWhole
 pub mod ActsFit

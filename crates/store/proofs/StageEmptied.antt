@@ -1,5 +1,5 @@
 -- What is staged once the stage of an order was emptied: the rows of the order are gone, and no others.
-use Rattle.store.proofs.Words.{ℕ, ◌≡◌, Bool, true, false, inl, inr, List, [], ◌∷◌, find, Option, Some, None, refl, sym, ap, subst, ◌∙◌, ◌||◌, if◌then◌else◌, bytes_eq, list_any, list_all, cases_Bool, same_text, Tables, StagedRow, AreRows, StagedKey, same_staged, staged_key, without_staged, each_written, names_exact, AreStagedOfOrder, staged_laws, or_false, false_from, clash}
+use Rattle.store.proofs.Words.{ℕ, ◌≡◌, Bool, true, false, inl, inr, List, [], ◌∷◌, find, Option, None, refl, sym, ap, subst, ◌∙◌, ◌||◌, if◌then◌else◌, bytes_eq, list_any, list_all, cases_Bool, same_text, Tables, StagedRow, AreRows, StagedKey, same_staged, staged_key, without_staged, each_written, names_exact, AreStagedOfOrder, staged_laws, or_false, false_from, clash}
 use Rattle.slices.proofs.RowsChanged.{and_both, or_none}
 
 abbrev pub staged_at : Tables → StagedKey → Option StagedRow

@@ -1,5 +1,5 @@
 -- The units of the rows of a history fit into their columns.
-use Rattle.store.proofs.Words.{◌≡◌, ℕ, zero, suc, ◌+◌, ◌-◌, ◌≤◌, Bool, true, false, ◌&&◌, List, [], ◌∷◌, find, Option, Some, None, refl, sym, ap, subst, ◌∙◌, arith, ℤ, pos, negsuc, neg_ℤ, decimal, ⊤, ◌==◌, ◌||◌, nat_le, is_some, if◌then◌else◌, flat_map, AllByRecursion, list_all, eqb-true, nat_tests, all-append, QTY_MAX, is_between, is_gtin, is_name, is_qty, is_counted, is_delta, same_text, LotId, is_sound, is_order_line, is_lot_id, is_day, OrderLine, Key, Command, Item, Bin, Receive, Move, Count, Adjust, Order, Urgent, Cancel, Pick, Unpick, Ship, Release, Recall, OpenDay, ACTS_MAX, UNITS_MAX, CardKind, WriteOn, WrittenOff, Shipment, StockRow, LineRow, StagedRow, ReservedRow, ShipmentRow, ShiplineRow, CardRow, is_card_units, fits_row, stock_mapping, line_mapping, staged_mapping, reserved_mapping, shipment_mapping, shipline_mapping, card_mapping, Act, next_number, Place, Supplier, InBin, Stage, Shipped, WriteOff, Posting, balance, is_bin, is_stage, is_shipment, is_lot, posting, correction, written, cleared, shipped_off, lot_returned, returned, posted, postings, postings_of, made_unshippable, RETURNS, KnownLot, lots, Placed, orders, order_named, lines_placed, lines_of, is_cancelled, shipments, shipments_so_far, in_bin, staged_of_lot, item_postings, staged, shipped, shipped_of, reserved, cards, card_line, card_lines, delivery_note, lot_units_in_house, IsHistory, names_item_twice, if_any, stock_row, line_row, staged_row, reserved_row, shipline_row, card_row, any_found, and_both, some_one, same_text_refl, is_lot_item, shipment_after, IsPart, holds_split, served, served_is, served_within_ordered, unknown_shipment_is_empty, legal_history, ordered_within_limit, line_qty, needs_of_line, reserved_within_needs, unknown_is_unreserved, shipments_apart, AllSingle, orders_single, lot_within_limit, bin_within_limit, Stays, stays_posting, stays_returned, stays_written, stays_corrected, units_stay}
+use Rattle.store.proofs.Words.{◌≡◌, ℕ, zero, suc, ◌+◌, ◌-◌, ◌≤◌, Bool, true, false, ◌&&◌, List, [], ◌∷◌, find, Option, Some, None, refl, sym, ap, subst, ◌∙◌, arith, ℤ, pos, negsuc, neg_ℤ, decimal, ⊤, ◌==◌, ◌||◌, nat_le, is_some, if◌then◌else◌, flat_map, AllByRecursion, list_all, eqb-true, nat_tests, all-append, QTY_MAX, is_between, is_gtin, is_name, is_qty, is_counted, is_delta, same_text, LotId, is_sound, is_order_line, is_lot_id, is_day, OrderLine, Key, Command, Receive, Move, Count, Adjust, Pick, Unpick, Ship, Recall, OpenDay, ACTS_MAX, UNITS_MAX, CardKind, WriteOn, WrittenOff, Shipment, StockRow, LineRow, StagedRow, ReservedRow, ShipmentRow, ShiplineRow, CardRow, is_card_units, fits_row, stock_mapping, line_mapping, staged_mapping, reserved_mapping, shipment_mapping, shipline_mapping, card_mapping, Act, next_number, Place, Supplier, InBin, Stage, Shipped, WriteOff, Posting, balance, is_bin, is_stage, is_shipment, is_lot, posting, correction, written, cleared, shipped_off, lot_returned, returned, posted, postings, postings_of, made_unshippable, RETURNS, KnownLot, lots, Placed, orders, order_named, lines_placed, lines_of, is_cancelled, shipments, shipments_so_far, in_bin, staged_of_lot, item_postings, staged, shipped, shipped_of, reserved, cards, card_line, card_lines, delivery_note, lot_units_in_house, IsHistory, names_item_twice, if_any, stock_row, line_row, staged_row, reserved_row, shipline_row, card_row, any_found, and_both, some_one, same_text_refl, is_lot_item, shipment_after, IsPart, holds_split, served, served_is, served_within_ordered, unknown_shipment_is_empty, legal_history, ordered_within_limit, line_qty, needs_of_line, reserved_within_needs, unknown_is_unreserved, shipments_apart, AllSingle, orders_single, lot_within_limit, bin_within_limit, Stays, stays_posting, stays_returned, stays_written, stays_corrected, units_stay}
 use Rattle.commands.specs.declared.command.Command.TheVariants.{Hold, Least}
 use Rattle.commands.specs.declared.rows.CardKind.TheVariants.{Receipt}
 use Rattle.store.proofs.ActsFit.{between, within, number_fits, found_has, mapped_has, lines_of_right, shipments_right}
@@ -144,12 +144,7 @@ module _ (first : ℤ) (l : LotId) where
       after low key (Recall m) next = kept low key (Recall m) (gone_back (record { key = key; command = Recall m }))
       after low key (OpenDay day) next = kept low key (OpenDay day) (gone_back (record { key = key; command = OpenDay day }))
       after low key (Least asked) next = kept low key (Least asked) (gone_back (record { key = key; command = Least asked }))
-      after low key (Item x) next = low
-      after low key (Bin x) next = low
-      after low key (Order x) next = low
-      after low key (Urgent x) next = low
-      after low key (Cancel x) next = low
-      after low key (Release x) next = low
+      after low key _ next = low
 
   -- a shipment with units has the number of one
   number_within : (acts : List Act) → IsHistory first acts → (n : ℕ) → 1 ≤ units_of acts n → is_between 1 ACTS_MAX n ≡ true
@@ -208,23 +203,7 @@ module _ (first : ℤ) (act : Act) (before : List Act) (history : IsHistory firs
   lines_right p WriteOff (InBin b) own some fits = line_right p WriteOn b (pos p.qty) own (card_on p.qty some fits)
   lines_right p (InBin b) WriteOff own some fits = line_right p WrittenOff b (neg_ℤ (pos p.qty)) own (card_off p.qty some fits)
   lines_right p (Stage o) (Shipped n u) own some fits = line_right p Shipment (decimal n) (neg_ℤ (pos p.qty)) own (card_off p.qty some fits)
-  lines_right p Supplier Supplier own some fits = tt
-  lines_right p Supplier (Stage o) own some fits = tt
-  lines_right p Supplier (Shipped n u) own some fits = tt
-  lines_right p Supplier WriteOff own some fits = tt
-  lines_right p WriteOff Supplier own some fits = tt
-  lines_right p WriteOff (Stage o) own some fits = tt
-  lines_right p WriteOff (Shipped n u) own some fits = tt
-  lines_right p WriteOff WriteOff own some fits = tt
-  lines_right p (InBin b) Supplier own some fits = tt
-  lines_right p (InBin b) (InBin c) own some fits = tt
-  lines_right p (InBin b) (Stage o) own some fits = tt
-  lines_right p (InBin b) (Shipped n u) own some fits = tt
-  lines_right p (Stage o) Supplier own some fits = tt
-  lines_right p (Stage o) (InBin b) own some fits = tt
-  lines_right p (Stage o) (Stage u) own some fits = tt
-  lines_right p (Stage o) WriteOff own some fits = tt
-  lines_right p (Shipped n u) to own some fits = tt
+  lines_right p _ _ own some fits = tt
 
   all_lines_right : (ps : List Posting) → AllByRecursion (IsPostedRight (next_number before)) ps → AllByRecursion (λ (c : CardRow). fits_row card_mapping c ≡ true) (flat_map (λ p. card_lines first act before p p.from p.to) ps)
   all_lines_right [] all = tt
@@ -280,12 +259,7 @@ module _ (first : ℤ) (act : Act) (before : List Act) (history : IsHistory firs
   right_posted (Recall l) sound = right_returned (made_unshippable first act before)
   right_posted (OpenDay day) sound = right_returned (made_unshippable first act before)
   right_posted (Least l) sound = right_returned (made_unshippable first act before)
-  right_posted (Item i) sound = tt
-  right_posted (Bin b) sound = tt
-  right_posted (Order o) sound = tt
-  right_posted (Urgent o) sound = tt
-  right_posted (Cancel o) sound = tt
-  right_posted (Release l) sound = tt
+  right_posted _ sound = tt
 
 cards_right : (first : ℤ) (acts : List Act) → IsHistory first acts → AllByRecursion (λ (c : CardRow). fits_row card_mapping c ≡ true) (cards first acts)
 cards_right first [] h = tt

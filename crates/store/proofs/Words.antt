@@ -41,7 +41,7 @@ unfoldable pub use Rattle.commands.specs.Spelling.{spelling}
 pub use Rattle.commands.specs.Tables.{Tables}
 pub use Rattle.commands.specs.declared.command.BinKind.TheVariants.{Hold}
 pub use Rattle.commands.specs.declared.command.Command.{Command}
-pub use Rattle.commands.specs.declared.command.Command.TheVariants.{Receive, Order, Urgent, Ship, Recall, OpenDay, Item, Bin, Move, Count, Adjust, Cancel, Pick, Unpick, Release}
+pub use Rattle.commands.specs.declared.command.Command.TheVariants.{Receive, Order, Urgent, Ship, Recall, OpenDay, Move, Count, Adjust, Pick, Unpick}
 pub use Rattle.commands.specs.declared.command.NewOrder.{NewOrder}
 pub use Rattle.commands.specs.declared.command.OrderLine.{OrderLine}
 pub use Rattle.commands.specs.declared.command.Receipt.{Receipt}
@@ -176,8 +176,8 @@ pub use Rattle.queries.proofs.CardOrder.{card_lines_of}
 pub use Rattle.queries.proofs.ShipmentCards.{Stays, stays_posting, stays_returned, stays_written, stays_corrected, units_stay}
 pub use Rattle.queries.proofs.ShipmentOrder.{acts_within}
 pub use Rattle.changes.specs.Written.{puts, drops, stage_emptied, emptied, table_written}
-unfoldable pub use Rattle.changes.specs.Written.{change_written}
-pub use Rattle.changes.proofs.ChangeWritten.{change_is_applied, table_left}
+unfoldable pub use Rattle.changes.specs.Written.{change_written, change_made}
+pub use Rattle.changes.proofs.ChangeWritten.{change_is_applied, table_left, made_is_written}
 pub use Rattle.changes.proofs.TableWritten.{is_at, are_same}
 pub use Rattle.store.specs.ActRows.{stored_above}
 pub use Rattle.store.specs.Acting.{Acts, IsActedInside, IsDecidedByRows, repeat_of, answer_of, IsActedOn, told, day_left, IsDecidedAs}

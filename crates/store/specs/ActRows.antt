@@ -1,13 +1,8 @@
 -- What comes of handing the rows of `repeats` to a sink.
 use Rattle.std.specs.Prelude.{◌≡◌, ◌≢◌, ℕ, min, ℤ, pos, List, Some, Result, Err, OnOk, find, IsTrue}
 use Rattle.std.specs.List.{AllByRecursion}
-use Rattle.sqlite.specs.State.{State}
-use Rattle.values.specs.Values.{same_text}
-use Rattle.commands.specs.declared.rows.RepeatRow.{RepeatRow}
-use Rattle.machine.specs.Acts.{Act}
-use Rattle.machine.specs.Tables.{repeat_row}
+use Rattle.store.specs.Words.{State, same_text, RepeatRow, Act, repeat_row, repeats}
 use Rattle.table_words.specs.Cells.{typed}
-use Rattle.tables.specs.Repeats.{repeats}
 use Rattle.whole_tables.specs.declared.halves.Half.TheVariants.{Upper}
 use Rattle.whole_tables.specs.Halves.{half_of}
 use Rattle.whole_tables.specs.Whole.{typed_rows_of}

@@ -1,24 +1,11 @@
 -- What an act answers, and what it leaves of the books.
 use Rattle.std.specs.Prelude.{◌≡◌, Bool, if◌then◌else◌, List, Option, Some, None, Result, Ok, Err, ℤ, IsTrue, false}
-use Rattle.sqlite_trees.specs.declared.store.Store.{Ghosts}
-use Rattle.sqlite.specs.Held.{state}
-use Rattle.sqlite.specs.State.{State, HasCleanDisk, KeepsCommit}
-use Rattle.table_words.specs.Steps.{IsReady, Goes}
-use Rattle.table_words.specs.declared.error.TableFault.{TableFault}
+use Rattle.store.specs.Words.{Ghosts, state, State, HasCleanDisk, KeepsCommit, IsReady, Goes, TableFault, Command, Key, RepeatRow, Act, day_after_command, tables_of, Outcome, IsHistory, is_key_of, bearer, outcome, acts_after, IsBooksOf, Known}
 use Rattle.commands.specs.Spelling.{key_text, spelling}
-use Rattle.commands.specs.declared.command.Command.{Command}
-use Rattle.commands.specs.declared.key.Key.{Key}
-use Rattle.commands.specs.declared.rows.RepeatRow.{RepeatRow}
-use Rattle.machine.specs.Acts.{Act}
-use Rattle.machine.specs.Standing.{day_after_command}
-use Rattle.machine.specs.Tables.{tables_of}
 use Rattle.rules.specs.Slices.{IsDecision}
 use Rattle.machine.specs.Verdict.{verdict}
 use Rattle.row_rules.specs.declared.slice.Change.{Change}
 use Rattle.machine.specs.Once as once
-use Rattle.machine.specs.Once.{Outcome, IsHistory, is_key_of, bearer, outcome, acts_after}
-use Rattle.slices.specs.Books.{IsBooksOf}
-use Rattle.slices.specs.declared.knowing.Known.{Known}
 use Rattle.store.specs.Books.{KeepsBooks, HoldsBooks}
 use Rattle.store.specs.Faults.{fault_of}
 use Rattle.store.specs.Knowing.{HasKnown, LeavesKnown}

@@ -1,8 +1,7 @@
 -- What a repeated key is told.
 use Rattle.std.specs.Prelude.{◌≡◌, ◌⊎◌, ℕ, true, false, List, Result, Ok, Err}
-use Rattle.values.specs.Values.{same_text}
+use Rattle.store.specs.Words.{same_text, RepeatRow}
 use Rattle.commands.specs.declared.refusal.Refusal.TheVariants.{KeyUsed}
-use Rattle.commands.specs.declared.rows.RepeatRow.{RepeatRow}
 use Rattle.store.specs.declared.reply.Reply.{Reply}
 use Rattle.store.specs.declared.fault.Fault.{Fault}
 use Rattle.store.specs.declared.fault.Fault.TheVariants.{Refused, Store}

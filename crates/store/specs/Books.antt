@@ -1,13 +1,6 @@
 -- The books of a history.
 use Rattle.std.specs.Prelude.{◌≡◌, List, ℤ, IsTrue}
-use Rattle.sqlite_trees.specs.declared.store.Store.{Ghosts}
-use Rattle.sqlite.specs.State.{State, HasCleanDisk, KeepsCommit}
-use Rattle.sqlite.specs.Held.{state}
-use Rattle.sqlite.specs.Tree.{Trees}
-use Rattle.table_words.specs.Steps.{IsReady}
-use Rattle.books_schema.specs.Opening.{TellTables}
-use Rattle.machine.specs.Acts.{Act}
-use Rattle.machine.specs.Standing.{today}
+use Rattle.store.specs.Words.{Ghosts, State, HasCleanDisk, KeepsCommit, state, Trees, IsReady, TellTables, Act, today}
 pub use Rattle.slices.specs.Books.{AreRowsOf, IsBooksOf}
 use Rattle.store.specs.Connected.{Connected}
 

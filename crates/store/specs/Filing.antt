@@ -1,17 +1,7 @@
 -- What the rows of a file come to, and what they leave of the books.
 use Rattle.std.specs.Prelude.{◌≡◌, ◌+◌, Bool, true, false, List, map, Option, Some, None, Result, Ok, Err, ℤ, IsTrue, All}
-use Rattle.sqlite_trees.specs.declared.store.Store.{Ghosts}
-use Rattle.sqlite.specs.State.{State, HasCleanDisk, KeepsCommit}
-use Rattle.sqlite.specs.Held.{state}
-use Rattle.table_words.specs.Steps.{IsReady}
-use Rattle.commands.specs.declared.key.Key.{Key}
-use Rattle.commands.specs.declared.command.Command.{Command}
-use Rattle.machine.specs.Acts.{Act}
-use Rattle.machine.specs.Standing.{today}
+use Rattle.store.specs.Words.{Ghosts, State, HasCleanDisk, KeepsCommit, state, IsReady, Key, Command, Act, today, IsHistory, is_key_of, outcome, acts_after, tallied, FileOutcome, Taken, RefusedRow, file_outcome, acts_after_file, IsBooksOf, Known}
 use Rattle.machine.specs.Once as once
-use Rattle.machine.specs.Once.{IsHistory, is_key_of, outcome, acts_after, tallied, FileOutcome, Taken, RefusedRow, file_outcome, acts_after_file}
-use Rattle.slices.specs.Books.{IsBooksOf}
-use Rattle.slices.specs.declared.knowing.Known.{Known}
 use Rattle.store.specs.Acting.{day_left}
 use Rattle.store.specs.Books.{KeepsBooks, HoldsBooks}
 use Rattle.store.specs.Knowing.{HasKnown, GoesOnKnown}

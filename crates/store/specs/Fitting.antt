@@ -1,7 +1,7 @@
 -- The numbers of rows are within the bounds of their columns.
 use Rattle.std.specs.Prelude.{◌≡◌, ℕ, true, List, Some, ℤ}
 use Rattle.values.specs.declared.lot.LotId.{LotId}
-use Rattle.commands.specs.Tables.{Tables}
+use Rattle.store.specs.Words.{Tables, RepeatRow, lot_mapping, recall_mapping, stock_mapping, order_mapping, urgent_mapping, line_mapping, staged_mapping, reserved_mapping, shipment_mapping, shipline_mapping, card_mapping, fits_repeat, Act, IsHistory, tables_of}
 use Rattle.commands.specs.declared.rows.MetaRow.{MetaRow}
 use Rattle.commands.specs.declared.rows.LotRow.{LotRow}
 use Rattle.commands.specs.declared.rows.RecallRow.{RecallRow}
@@ -14,14 +14,8 @@ use Rattle.commands.specs.declared.rows.ReservedRow.{ReservedRow}
 use Rattle.commands.specs.declared.rows.ShipmentRow.{ShipmentRow}
 use Rattle.commands.specs.declared.rows.ShiplineRow.{ShiplineRow}
 use Rattle.commands.specs.declared.rows.CardRow.{CardRow}
-use Rattle.commands.specs.declared.rows.RepeatRow.{RepeatRow}
 use Rattle.tables.specs.Meta.{fits_meta}
 use Rattle.table_words.specs.Stored.{fits_row}
-use Rattle.table_words.specs.Typed.{lot_mapping, recall_mapping, stock_mapping, order_mapping, urgent_mapping, line_mapping, staged_mapping, reserved_mapping, shipment_mapping, shipline_mapping, card_mapping}
-use Rattle.tables.specs.Repeats.{fits_repeat}
-use Rattle.machine.specs.Acts.{Act}
-use Rattle.machine.specs.Once.{IsHistory}
-use Rattle.machine.specs.Tables.{tables_of}
 
 -- those of each row; the rows of items, bins and `least` have no number that a type leaves open
 pub record AreFitting (t : Tables) : Type 0 where

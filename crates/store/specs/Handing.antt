@@ -1,11 +1,8 @@
 -- What comes of handing records of the books to a sink, one at a time.
 use Rattle.std.specs.Prelude.{List, Result, Ok, Err, ℤ}
-use Rattle.sqlite_trees.specs.declared.store.Store.{Ghosts}
+use Rattle.store.specs.Words.{Ghosts, State, Act, IsHistory}
 use Rattle.sqlite_trees.specs.Tree.{Trees}
-use Rattle.sqlite.specs.State.{State}
 use Rattle.commands.specs.Sinks.{Reaches, ReachesWithin, StopsWithin}
-use Rattle.machine.specs.Acts.{Act}
-use Rattle.machine.specs.Once.{IsHistory}
 use Rattle.store.specs.Books.{KeepsBooks, HoldsBooks}
 use Rattle.store.specs.Connected.{Connected}
 use Rattle.store.specs.declared.fault.Fault.TheVariants.{Refused, Store, Foreign}

@@ -1,11 +1,7 @@
 -- What the books know of their tables.
 use Rattle.std.specs.Prelude.{◌≡◌, Bool, true, false, Option, Result, IsTrue, IfSome, OnOk, is_ok}
-use Rattle.commands.specs.Tables.{Tables}
-use Rattle.sqlite.specs.State.{State, HasCleanDisk}
-use Rattle.table_words.specs.Steps.{IsReady}
-use Rattle.table_words.specs.Typed.{tables_in}
+use Rattle.store.specs.Words.{Tables, State, HasCleanDisk, IsReady, tables_in, Known}
 use Rattle.slices.specs.Slicing.{HoldsOf, HoldsBeside}
-use Rattle.slices.specs.declared.knowing.Known.{Known}
 use Rattle.store.specs.Books.{IsSettled}
 
 -- once it has been read, what is known of the tables is so

@@ -1,3 +1,4 @@
+mod Words
 pub mod Faults
 pub mod Inside
 pub mod Acting

@@ -1,27 +1,18 @@
 -- What making books and opening them leave.
 use Rattle.std.specs.Prelude.{◌≡◌, ◌⊎◌, ◌≤◌, List, ℕ, ℤ, true, false, None, [], IsTrue}
-use Rattle.sqlite_trees.specs.declared.store.Store.{Ghosts}
+use Rattle.store.specs.Words.{Ghosts, Held, state, State, HasCleanDisk, Survives, Trees, IsReady, AreTypedAt, HasDayIn, IsReadyAs, AreReadTyped, KeepsRowsAs, ComesTo, IsClosed, TellTables, Act, tables_of}
 use Rattle.sqlite_trees.specs.View.{IsClean, doubt}
-use Rattle.sqlite.specs.Held.{Held, state}
-use Rattle.sqlite.specs.State.{State, HasCleanDisk, Survives}
-use Rattle.sqlite.specs.Tree.{Trees}
-use Rattle.table_words.specs.Steps.{IsReady}
-use Rattle.table_words.specs.Typed.{AreTypedAt}
 use Rattle.books_schema.specs.Bringing.{as_older, as_brought, older_tables_in, AreOlderTyped}
 use Rattle.books_schema.specs.Indexing.{KeepsRows}
 use Rattle.books_schema.specs.Older.{number}
-pub use Rattle.books_schema.specs.Opening.{HasSchema, IsOfNone}
-pub use Rattle.books_schema.specs.Opening.{Tells}
-use Rattle.books_schema.specs.Opening.{HasDayIn, IsReadyAs, AreReadTyped, KeepsRowsAs, ComesTo, IsClosed, TellTables}
+pub use Rattle.books_schema.specs.Opening.{HasSchema, IsOfNone, Tells}
 use Rattle.books_schema.specs.Settling.{third_tables_in, IsRaised}
 pub use Rattle.books_schema.specs.declared.ready_connection.Found.{Found}
 use Rattle.books_schema.specs.declared.ready_connection.Found.TheVariants.{Newest, Older}
 use Rattle.books_schema.specs.declared.older.OlderBooks.{OlderBooks}
 use Rattle.books_schema.specs.declared.ready_connection.Leftover.{Leftover}
 use Rattle.books_schema.specs.declared.ready_connection.Leftover.TheVariants as left
-use Rattle.machine.specs.Acts.{Act}
 use Rattle.machine.specs.Schemas.{are_of_schema}
-use Rattle.machine.specs.Tables.{tables_of}
 use Rattle.store.specs.Books.{AreRowsOf, AreBooks}
 
 -- Books that are found

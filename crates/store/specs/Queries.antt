@@ -1,8 +1,6 @@
 -- What a query answers, and what it leaves of the books.
 use Rattle.std.specs.Prelude.{◌≡◌, List, Result, Ok, Err, ℤ}
-use Rattle.sqlite_trees.specs.declared.store.Store.{Ghosts}
-use Rattle.commands.specs.declared.refusal.Refusal.{Refusal}
-use Rattle.machine.specs.Acts.{Act}
+use Rattle.store.specs.Words.{Ghosts, Refusal, Act}
 use Rattle.store.specs.Books.{HoldsBooks}
 use Rattle.store.specs.Connected.{Connected}
 use Rattle.store.specs.declared.fault.Fault.{Fault}

@@ -1,15 +1,7 @@
 -- What is shown of the books.
 use Rattle.std.specs.Prelude.{◌≡◌, List, Option, Some, None, Result, Ok, Err, ℤ, IsTrue, OnOk}
-use Rattle.commands.specs.Tables.{Tables}
-use Rattle.commands.specs.declared.refusal.Refusal.{Refusal}
-use Rattle.sqlite.specs.State.{State, HasCleanDisk, KeepsCommit}
-use Rattle.table_words.specs.Steps.{IsReady}
-use Rattle.table_words.specs.Typed.{tables_in}
-use Rattle.machine.specs.Acts.{Act}
-use Rattle.machine.specs.Tables.{tables_of}
-use Rattle.slices.specs.Books.{IsBooksOf}
+use Rattle.store.specs.Words.{Tables, Refusal, State, HasCleanDisk, KeepsCommit, IsReady, tables_in, Act, tables_of, IsBooksOf, Known}
 use Rattle.slices.specs.Remembering.{KnowsRows}
-use Rattle.slices.specs.declared.knowing.Known.{Known}
 use Rattle.slices.specs.declared.rows_known.RowsKnown.{RowsKnown}
 use Rattle.queries.specs.Asked.{IsKnownOf}
 use Rattle.store.specs.Books.{KeepsBooks}

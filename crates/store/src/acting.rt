@@ -7,7 +7,7 @@ ghost use Rattle.table_words.specs.Typed.{with_repeat};
 ghost use Rattle.keyed_rows.specs.Writes.{Writes};
 ghost use Rattle.machine.specs.Acts.{Act};
 ghost use Rattle.machine.specs.Once.{IsHistory, is_key_of, acts_after};
-ghost use Rattle.changes.specs.Written.{change_written};
+ghost use Rattle.changes.specs.Written.{change_made};
 ghost use Rattle.store.specs.Books.{AreBooks, KeepsBooks};
 ghost use Rattle.store.specs.Inside.{IsInside, IsInsideOpen};
 ghost use Rattle.store.specs.Acting.{IsActedOn, Acts, IsNew, IsDecidedAs, repeat_of, answer_of};
@@ -25,6 +25,7 @@ use slices::{Known, read_slice};
 use sqlite::{Alter, Connection, Transaction};
 use std::alloc::Global;
 use table_words::error::TableFault;
+use values::Name;
 
 /// Acts on the command under its key, in one transaction.
 ///
@@ -161,8 +162,12 @@ fn accept_known<S: Alter>(
     ensures same_reference { tx.new.conn.ghost_name ≡ tx.old.conn.ghost_name }
     ensures acts { IsInsideOpen (Acts (record { key = key.now; command = command.now }) (IsDecidedAs (Ok change.now)) (Some known.old) (Some known.new) result) (state S.Store tx.old.conn.now) (state S.Store tx.new.conn.now) }
 {
+    let filled = known
+        .rows
+        .followed
+        .order_filled(change.put.lines.as_slice());
     known.add_change(alloc, tx, &change.put)?;
-    let written = accept(alloc, tx, key, command, change);
+    let written = accept(alloc, tx, key, command, change, filled);
     follow(known, change, &written);
     answer_to(change, written)
 }
@@ -180,18 +185,20 @@ fn answer_to(change: &Change, written: Result<(), TableFault>) -> Result<Reply, 
     }
 }
 
-// Writes what an accepted command changes, and then its row of `repeats`.
+// Writes what an accepted command changes, and then its row of `repeats`. Where its lines are all those of an order that is
+// `filled`, one statement writes them.
 fn accept<S: Alter>(
     alloc: Global,
     tx: &mut Transaction<'_, S>,
     key: &Key,
     command: &Command,
     change: &Change,
+    filled: Option<Name>,
 ) -> Result<(), TableFault>
     ensures same_reference { tx.new.conn.ghost_name ≡ tx.old.conn.ghost_name }
-    ensures writes { Writes (λ t. with_repeat (repeat_of key.now command.now change.now) (change_written change.now t)) (state S.Store tx.old.conn.now) (state S.Store tx.new.conn.now) result }
+    ensures writes { Writes (λ t. with_repeat (repeat_of key.now command.now change.now) (change_made change.now filled t)) (state S.Store tx.old.conn.now) (state S.Store tx.new.conn.now) result }
 {
     let spelled = spell(alloc, command)?;
-    write_change(alloc, tx, change)?;
+    write_change(alloc, tx, change, filled)?;
     keep_act(tx, key, Listed::from_vec(spelled), change)
 }

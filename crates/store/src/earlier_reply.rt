@@ -1,6 +1,6 @@
 //! What an act is told by the row that an earlier act left.
 
-ghost use Rattle.std.specs.Prelude.{◌≡◌, true};
+ghost use Rattle.std.specs.Prelude.{true};
 ghost use Rattle.commands.specs.Spelling.{spelling};
 ghost use Rattle.store.specs.Answers.{IsToldAgain};
 

@@ -1,5 +1,5 @@
 -- Columns and typed rows under what is done to stored rows.
-use Rattle.table_words.proofs.Words.{◌≡◌, inl, inr, ℕ, Bool, true, false, ◌&&◌, bytes_eq, List, [], ◌∷◌, ◌++◌, map, filter, pos, negsuc, ℤ, int_eq, int_cmp, arith, true≢false, subst, refl, sym, ap, ap₂, ◌∙◌, is_eq, Equal, codes, length, get_or, take, ◌+◌, ◌<◌, AllByRecursion, cases_Bool, and_parts, is_eq-slice_cmp, Value, Null, Int, Real, Text, Blob, Row, bytes, class, value_cmp, Binary, value_cmp-Text, value_cmp-Int, value_cmp-apart, bytes_eq-Decides, nat_tests, Decides-eqb, Decides-int_eq, ints, ◌↔◌, nat_eq, nat_le, ◌≤◌, unwrap_or, is_int, map-map, all-append, all_map, all_weaker, take_more, map-append, equal, Compare, Eq, is_true, from_truth, same_lot_id, typed, is_word, is_the_text, is_number, is_count, is_the_number, number_in, flag_number, flag_in, is_bin_kind, bin_kind_in, is_order_state, is_open_state, order_state_in, is_card_kind, card_kind_in, LotId, bin_kind_word, order_state_of, order_state_word, card_kind_word, BinKind, Store, Hold, OrderState, Open, Done, Cancelled, CardKind, Receipt, WriteOn, WriteOff, Shipment}
+use Rattle.table_words.proofs.Words.{◌≡◌, inl, inr, ℕ, Bool, true, false, ◌&&◌, bytes_eq, List, [], ◌∷◌, ◌++◌, map, filter, pos, negsuc, ℤ, int_eq, int_cmp, arith, true≢false, subst, refl, sym, ap, ap₂, ◌∙◌, is_eq, Equal, codes, length, get_or, take, ◌+◌, ◌<◌, AllByRecursion, cases_Bool, and_parts, is_eq-slice_cmp, Value, Null, Int, Real, Text, Blob, Row, bytes, class, value_cmp, Binary, value_cmp-Text, value_cmp-Int, value_cmp-apart, bytes_eq-Decides, nat_tests, Decides-eqb, Decides-int_eq, ints, ◌↔◌, nat_eq, nat_le, ◌≤◌, unwrap_or, is_int, map-map, all-append, all_map, all_weaker, take_more, map-append, equal, Compare, Eq, is_true, from_truth, same_lot_id, typed, is_word, is_the_text, is_number, is_count, is_the_number, number_in, flag_number, flag_in, bin_kind_in, is_open_state, order_state_in, card_kind_in, LotId, bin_kind_word, order_state_of, order_state_word, card_kind_word, BinKind, Store, Hold, OrderState, Open, Done, Cancelled, CardKind, Receipt, WriteOn, WriteOff, Shipment}
 use Rattle.table_words.proofs.KeyLemmas.{IsSame, ties, same_bytes, itself_bytes, itself_both}
 use Rattle.sqlite_sql.specs.Ops.{binary}
 
@@ -143,9 +143,6 @@ same_day a b = (Decides-int_eq a b).0
 pub itself_number : (a : ℕ) → nat_eq a a ≡ true
 itself_number a = (Decides-eqb a a).1 refl
 
-pub itself_day : (a : ℤ) → int_eq a a ≡ true
-itself_day a = (Decides-int_eq a a).1 refl
-
 -- a rowid that equals a parameter is it
 pub id_is : (v : Value) (d : ℤ) → is_int v ≡ true → equal Binary v (Int d) ≡ true → v ≡ Int d
 id_is (Int n) d h e = let tie : int_cmp n d ≡ Equal = sym (value_cmp-Int n d) ∙ (ties (Int n) (Int d) e).0 in ap Int (grind (arith, ints))
@@ -165,26 +162,13 @@ itself_lot a = itself_both _ _ (itself_bytes a.gtin) (itself_bytes a.lot)
 pub at_most : (n limit : ℕ) → n ≤ limit → nat_le n limit ≡ true
 at_most n limit h = grind (arith, nat_tests)
 
-pub flag_sound : (b : Bool) → is_number 1 (Int (pos (flag_number b))) ≡ true
-flag_sound true = refl
-flag_sound false = refl
-
 pub flag_back : (b : Bool) → flag_in (Int (pos (flag_number b))) ≡ b
 flag_back true = refl
 flag_back false = refl
 
-pub bin_kind_sound : (k : BinKind) → is_bin_kind (bin_kind_word k) ≡ true
-bin_kind_sound Store = refl
-bin_kind_sound Hold = refl
-
 pub bin_kind_back : (k : BinKind) → bin_kind_in (Text (bin_kind_word k)) ≡ k
 bin_kind_back Store = refl
 bin_kind_back Hold = refl
-
-pub order_state_sound : (s : OrderState) → is_order_state (order_state_word s) ≡ true
-order_state_sound Open = refl
-order_state_sound Done = refl
-order_state_sound Cancelled = refl
 
 pub order_state_back : (s : OrderState) → order_state_in (Text (order_state_word s)) ≡ s
 order_state_back Open = refl
@@ -203,12 +187,6 @@ open_word t = turned (codes "OPEN") t ∙ elim (cases_Bool (bytes_eq t (codes "O
 
 pub open_is : (v : Value) → bytes_eq (codes "OPEN") (bytes v) ≡ is_open_state (order_state_in v)
 open_is v = open_word (bytes v)
-
-pub card_kind_sound : (k : CardKind) → is_card_kind (card_kind_word k) ≡ true
-card_kind_sound Receipt = refl
-card_kind_sound WriteOn = refl
-card_kind_sound WriteOff = refl
-card_kind_sound Shipment = refl
 
 pub card_kind_back : (k : CardKind) → card_kind_in (Text (card_kind_word k)) ≡ k
 card_kind_back Receipt = refl

@@ -1,5 +1,5 @@
 -- What takes rows out of a table and puts one in, as functions of lists.
-use Rattle.table_words.proofs.Words.{◌≡◌, ◌≤◌, ◌<◌, length, get_or, inl, inr, ℤ, pos, ◌+ℤ◌, ◌<ℤ◌, Bool, true, false, not, cond, ◌||◌, List, [], ◌∷◌, ◌++◌, map, filter, fold, refl, sym, ap, subst, ◌∙◌, arith, Ordering, Less, Equal, Greater, is_eq, int_cmp, IsTrue, IsPermutation, cases_Bool, cond_both, false_from_ne_true, nat_tests, ints, tied_itself, list_any-IsPermutation, AllByRecursion, list_any, Int, Row, value_cmp, value_cmp_total, value_cmp-Int, rowid, IsTable, has_rowid, put_row, without_rowid, is_int, Has, id_in, next_rowid, without_all, is_taken, ids_of, all_has, all_from, some_has, some_from, has_filtered, has_kept, int_is, put_has, put_all_keeps, IsTable-put_row, tied_same, all-append, ascending-append, ascending-filter, all-filter, ascending-map, ascending_weaker, all_map, all_weaker, IsRows}
+use Rattle.table_words.proofs.Words.{◌≡◌, ◌≤◌, ◌<◌, length, get_or, inl, inr, ℤ, pos, ◌+ℤ◌, ◌<ℤ◌, Bool, true, false, not, cond, ◌||◌, List, [], ◌∷◌, ◌++◌, map, filter, fold, refl, sym, ap, subst, ◌∙◌, arith, Ordering, Less, Equal, Greater, is_eq, int_cmp, IsTrue, IsPermutation, cases_Bool, false_from_ne_true, nat_tests, ints, tied_itself, list_any-IsPermutation, AllByRecursion, list_any, Int, Row, value_cmp, value_cmp_total, value_cmp-Int, rowid, IsTable, has_rowid, put_row, without_rowid, is_int, Has, id_in, next_rowid, without_all, is_taken, ids_of, all_has, all_from, some_has, some_from, has_filtered, has_kept, int_is, put_has, put_all_keeps, IsTable-put_row, tied_same, ascending-filter, all-filter, ascending-map, ascending_weaker, all_map, all_weaker, IsRows, ap₂, IsPermutation-sym, Contains-permutation, has_contained, contains_had, put_all, put_all_has, put_all_adds, are_fresh, not-true}
 
 pub filter_same_on : {X : Type 0} (p q : X → Bool) (xs : List X) → ((x : X) → Has xs x → p x ≡ q x) → filter p xs ≡ filter q xs
 filter_same_on p q [] same = refl
@@ -96,10 +96,6 @@ put_last new (r ∷ rows) below = rw below.0 (ap (λ l. r ∷ l) (put_last new r
 pub put_is : (rows : List Row) (values : Row) → IsRows rows → put_row (Int (next_rowid rows) ∷ values) rows ≡ rows ++ (Int (next_rowid rows) ∷ values) ∷ []
 put_is rows values kept = put_last (Int (next_rowid rows) ∷ values) rows (all_below rows kept)
 
-pub IsRows-put : (rows : List Row) (values : Row) → IsRows rows → IsRows (rows ++ (Int (next_rowid rows) ∷ values) ∷ [])
-IsRows-put rows values kept =
-    (ascending-append _ rows _ kept.0 (tt, tt) (all_from _ rows (λ r h. (all_has _ rows r (all_below rows kept) h, tt))), all-append _ rows _ kept.1 (refl, tt))
-
 pub only_is : {X : Type 0} (xs : List X) (x : X) → 1 ≤ length xs → length xs < 2 → x ≡ get_or xs 0 x → xs ≡ x ∷ []
 only_is [] x low high is = absurd (omega arith)
 only_is (y ∷ []) x low high is = ap (λ z. z ∷ []) (sym is)
@@ -114,48 +110,106 @@ none_pass p (x ∷ xs) e = elim (cases_Bool (p x)) [
   | inr h ↦ (h, none_pass p xs (rw h at e))
 ]
 
-pub all_left : {X : Type 0} (p : X → Bool) (xs : List X) → AllByRecursion (λ x. p x ≡ false) xs → filter (λ x. not (p x)) xs ≡ xs
-all_left p [] h = refl
-all_left p (x ∷ xs) h = rw h.0 (ap (λ l. x ∷ l) (all_left p xs h.1))
+-- each row that passes has columns of its own from now on
+abbrev pub rewritten : (Row → Bool) → (Row → Row) → List Row → List Row
+rewritten p columns = map (λ r. cond (p r) (rowid r ∷ columns r) r)
 
--- each row that passes has these columns from now on
+-- or the same ones
 abbrev pub over : (Row → Bool) → Row → List Row → List Row
-over p values = map (λ r. cond (p r) (rowid r ∷ values) r)
+over p values = rewritten p (λ r. values)
 
 pub none_over : (p : Row → Bool) (values : Row) (rows : List Row) → AllByRecursion (λ r. p r ≡ false) rows → over p values rows ≡ rows
 none_over p values [] h = refl
 none_over p values (r ∷ rows) h = rw h.0 (ap (λ l. r ∷ l) (none_over p values rows h.1))
 
-put_first : (r values : Row) (rows : List Row) → AllByRecursion (λ y. value_cmp (rowid r) (rowid y) ≡ Less) rows → put_row (rowid r ∷ values) rows ≡ (rowid r ∷ values) ∷ rows
-put_first r values [] h = refl
-put_first r values (y ∷ rows) h = rw (value_cmp_total.antisymm (rowid y) (rowid r), h.0) refl
+has_mapped : {X Y : Type 0} (f : X → Y) (xs : List X) (y : Y) → Has (map f xs) y → (x : X) × Has xs x × (y ≡ f x)
+has_mapped f [] y h = absurd h
+has_mapped f (x ∷ xs) y (inl e) = (x, inl refl, e)
+has_mapped f (x ∷ xs) y (inr h) = let r = has_mapped f xs y h in (r.0, inr r.1, r.2)
 
--- a row goes back to its place
-pub put_back : (p : Row → Bool) (values : Row) (rows : List Row) (x : Row) → IsTable rows → filter p rows ≡ x ∷ [] → put_row (rowid x ∷ values) (filter (λ r. not (p r)) rows) ≡ over p values rows
-put_back p values [] x up one = absurd cc
-put_back p values (r ∷ rows) x up one = elim (cases_Bool (p r)) [
-  | inl e ↦
-      let whole : r ∷ filter p rows ≡ x ∷ [] = rw e at one in
-      let same : r ≡ x = cc in
-      let none : filter p rows ≡ [] = cc in
-      let others = none_pass p rows none in
-      rw (e, all_left p rows others, none_over p values rows others, sym same) (put_first r values rows up.0)
-  | inr e ↦
-      let later : filter p rows ≡ x ∷ [] = rw e at one in
-      let there = has_filtered p rows x (subst (λ l. Has l x) (sym later) (inl refl)) in
-      let below : value_cmp (rowid r) (rowid x) ≡ Less = all_has (λ y. value_cmp (rowid r) (rowid y) ≡ Less) rows x up.0 there.0 in
-      rw (e, below) (ap (λ l. r ∷ l) (put_back p values rows x up.1 later))
-]
+mapped_has : {X Y : Type 0} (f : X → Y) (xs : List X) (x : X) → Has xs x → Has (map f xs) (f x)
+mapped_has f [] x h = absurd h
+mapped_has f (y ∷ xs) x (inl e) = inl (ap f e)
+mapped_has f (y ∷ xs) x (inr h) = inr (mapped_has f xs x h)
 
-rowid_over : (p : Row → Bool) (values : Row) (r : Row) → rowid (cond (p r) (rowid r ∷ values) r) ≡ rowid r
-rowid_over p values r = elim (cases_Bool (p r)) [ inl e ↦ rw e refl | inr e ↦ rw e refl ]
+pub map_same_on : {X Y : Type 0} (f g : X → Y) (xs : List X) → ((x : X) → Has xs x → f x ≡ g x) → map f xs ≡ map g xs
+map_same_on f g [] same = refl
+map_same_on f g (x ∷ xs) same = ap₂ ◌∷◌ (same x (inl refl)) (map_same_on f g xs (λ y h. same y (inr h)))
 
-pub IsRows-over : (p : Row → Bool) (values : Row) (rows : List Row) → IsRows rows → IsRows (over p values rows)
-IsRows-over p values rows kept =
-    let f = λ (r : Row). cond (p r) (rowid r ∷ values) r in (
-      ascending-map (λ a b. value_cmp (rowid a) (rowid b) ≡ Less) f rows (ascending_weaker _ (λ a b. value_cmp (rowid (f a)) (rowid (f b)) ≡ Less) (λ a b h. rw (rowid_over p values a, rowid_over p values b) h) rows kept.0),
-      all_map (λ r. IsTrue (is_int (rowid r))) f rows (all_weaker _ (λ r. IsTrue (is_int (rowid (f r)))) (λ r h. rw (rowid_over p values r) h) rows kept.1),
+-- two tables with the same rows are one
+same_rows : (xs ys : List Row) → IsTable xs → IsTable ys → ((r : Row) → Has xs r → Has ys r) → ((r : Row) → Has ys r → Has xs r) → xs ≡ ys
+same_rows [] [] up up_too to from = refl
+same_rows [] (y ∷ ys) up up_too to from = absurd (from y (inl refl))
+same_rows (x ∷ xs) [] up up_too to from = absurd (to x (inl refl))
+same_rows (x ∷ xs) (y ∷ ys) up up_too to from =
+    let same : x ≡ y = one (to x (inl refl)) (from y (inl refl)) in
+    ap₂ ◌∷◌ same (same_rows xs ys up.1 up_too.1 (λ r h. later x xs y ys up.0 same r h (to r (inr h))) (λ r h. later y ys x xs up_too.0 (sym same) r h (from r (inr h))))
+  where
+    one : Has (y ∷ ys) x → Has (x ∷ xs) y → x ≡ y
+    one (inl same) other = same
+    one (inr there) (inl same) = sym same
+    one (inr there) (inr here) =
+        let low = all_has (λ z. value_cmp (rowid x) (rowid z) ≡ Less) xs y up.0 here in
+        let high = all_has (λ z. value_cmp (rowid y) (rowid z) ≡ Less) ys x up_too.0 there in
+        absurd (let turned = rw low at (value_cmp_total.antisymm (rowid y) (rowid x)) in cc)
+
+    later : (a : Row) (more : List Row) (b : Row) (others : List Row) → AllByRecursion (λ z. value_cmp (rowid a) (rowid z) ≡ Less) more → a ≡ b → (r : Row) → Has more r → Has (b ∷ others) r → Has others r
+    later a more b others low same r h (inl e) = absurd (
+        let less = all_has (λ z. value_cmp (rowid a) (rowid z) ≡ Less) more r low h in
+        let tie = tied_itself value_cmp_total (rowid a) in
+        let less_itself : value_cmp (rowid a) (rowid a) ≡ Less = subst (λ z. value_cmp (rowid a) (rowid z) ≡ Less) (e ∙ sym same) less in cc)
+    later a more b others low same r h (inr there) = there
+
+has_shuffled : {X : Type 0} (xs ys : List X) (x : X) → IsPermutation xs ys → Has xs x → Has ys x
+has_shuffled xs ys x same h = has_contained ys x (Contains-permutation xs ys x same (contains_had xs x h))
+
+rowid_kept : (p : Row → Bool) (columns : Row → Row) (r : Row) → rowid (cond (p r) (rowid r ∷ columns r) r) ≡ rowid r
+rowid_kept p columns r = elim (cases_Bool (p r)) [ inl e ↦ rw e refl | inr e ↦ rw e refl ]
+
+pub IsRows-rewritten : (p : Row → Bool) (columns : Row → Row) (rows : List Row) → IsRows rows → IsRows (rewritten p columns rows)
+IsRows-rewritten p columns rows kept =
+    let f = λ (r : Row). cond (p r) (rowid r ∷ columns r) r in (
+      ascending-map (λ a b. value_cmp (rowid a) (rowid b) ≡ Less) f rows (ascending_weaker _ (λ a b. value_cmp (rowid (f a)) (rowid (f b)) ≡ Less) (λ a b h. rw (rowid_kept p columns a, rowid_kept p columns b) h) rows kept.0),
+      all_map (λ r. IsTrue (is_int (rowid r))) f rows (all_weaker _ (λ r. IsTrue (is_int (rowid (f r)))) (λ r h. rw (rowid_kept p columns r) h) rows kept.1),
     )
+
+put_all_table : (news rows : List Row) → IsTable rows → IsTable (put_all rows news)
+put_all_table [] rows up = up
+put_all_table (n ∷ news) rows up = put_all_table news (put_row n rows) (IsTable-put_row n rows up)
+
+-- rows go back to their places, in whatever order
+pub put_back : (p : Row → Bool) (columns : Row → Row) (rows news : List Row) → IsRows rows → IsPermutation (map (λ r. rowid r ∷ columns r) (filter p rows)) news → are_fresh (filter (λ r. not (p r)) rows) news ≡ true
+    → put_all (filter (λ r. not (p r)) rows) news ≡ rewritten p columns rows
+put_back p columns rows news kept same fresh = same_rows (put_all left news) (rewritten p columns rows) (put_all_table news left (ascending-filter _ (λ r. not (p r)) rows kept.0)) (IsRows-rewritten p columns rows kept).0 to from
+  where
+    left : List Row
+    left = filter (λ r. not (p r)) rows
+
+    again : Row → Row
+    again r = rowid r ∷ columns r
+
+    to : (r : Row) → Has (put_all left news) r → Has (rewritten p columns rows) r
+    to r h = elim (put_all_has news left r h) [
+      | inl new ↦
+          let old = has_mapped again (filter p rows) r (has_shuffled news _ r (IsPermutation-sym _ news same) new) in
+          let there = has_filtered p rows old.0 old.1 in
+          subst (Has (rewritten p columns rows)) (rw there.1 (sym old.2)) (mapped_has (λ r. cond (p r) (again r) r) rows old.0 there.0)
+      | inr stays ↦
+          let there = has_filtered (λ r. not (p r)) rows r stays in
+          subst (Has (rewritten p columns rows)) (rw (not-true (p r) there.1) refl) (mapped_has (λ r. cond (p r) (again r) r) rows r there.0)
+    ]
+
+    from : (r : Row) → Has (rewritten p columns rows) r → Has (put_all left news) r
+    from r h =
+        let old = has_mapped (λ r. cond (p r) (again r) r) rows r h in
+        elim (cases_Bool (p old.0)) [
+          | inl e ↦
+              let is : r ≡ again old.0 = rw e at old.2 in
+              subst (Has (put_all left news)) (sym is) (put_all_adds news left (again old.0) fresh (has_shuffled _ news (again old.0) same (mapped_has again (filter p rows) old.0 (has_kept p rows old.0 old.1 e))))
+          | inr e ↦
+              let is : r ≡ old.0 = rw e at old.2 in
+              subst (Has (put_all left news)) (sym is) (put_all_keeps news left old.0 fresh (has_kept (λ r. not (p r)) rows old.0 old.1 (ap not e)))
+        ]
 
 pub IsRows-put_row : (new : Row) (rows : List Row) → IsTrue (is_int (rowid new)) → IsRows rows → IsRows (put_row new rows)
 IsRows-put_row new rows keyed kept = (
@@ -165,10 +219,6 @@ IsRows-put_row new rows keyed kept = (
     | inr there ↦ all_has (λ r. IsTrue (is_int (rowid r))) rows r kept.1 there
   ]),
 )
-
-pub all_over : (P : Row → Type 0) (p : Row → Bool) (values : Row) (rows : List Row) → ((r : Row) → P r → p r ≡ true → P (rowid r ∷ values)) → AllByRecursion P rows → AllByRecursion P (over p values rows)
-all_over P p values rows new old =
-    all_map P (λ r. cond (p r) (rowid r ∷ values) r) rows (all_weaker P (λ r. P (cond (p r) (rowid r ∷ values) r)) (λ r h. cond_both (p r) (rowid r ∷ values) r P (new r h) (λ _. h)) rows old)
 
 pub all_put_row : (P : Row → Type 0) (new : Row) (rows : List Row) → P new → AllByRecursion P rows → AllByRecursion P (put_row new rows)
 all_put_row P new rows h all = all_from P (put_row new rows) (λ r there. elim (put_has new rows r there) [ inl e ↦ subst P (sym e) h | inr old ↦ all_has P rows r all old ])

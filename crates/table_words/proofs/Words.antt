@@ -1,14 +1,14 @@
 -- What the proofs of this crate say of what it stands on: each word from where it is defined.
 pub use Rattle.std.specs.List.{AllByRecursion, list_any, list_all, filter_map}
 pub use Rattle.std.specs.Ordering.{is_ne, match_ordering, ordering_reverse}
-pub use Rattle.std.specs.Prelude.{◌↔◌, nat_eq, nat_le, ◌^◌, ◌-◌}
+pub use Rattle.std.specs.Prelude.{◌↔◌, nat_eq, nat_le, drop, ◌^◌, ◌-◌}
 pub use Rattle.std.proofs.Common.{◌≡◌, ◌⊎◌, inl, inr, ℕ, Bool, true, false, List, Ok, Err, Result, OnOk, OnErr, IfOk, IfErr, IsTrue, refl, sym, ap, subst, ◌∙◌, arith, map, ◌&&◌, bytes_eq, [], ◌∷◌, ◌++◌, filter, pos, negsuc, ℤ, int_eq, int_cmp, true≢false, ap₂, is_eq, Equal, codes, length, get_or, take, ◌+◌, ◌<◌, ◌≤◌, unwrap_or, not, cond, find, slice_get, Option, Some, None, Ordering, Less, Greater, ◌+ℤ◌, ◌<ℤ◌, ◌||◌, fold, IsPermutation, flat_map, zero, suc, ◌≢◌, ◌/◌}
-pub use Rattle.std.proofs.lemmas.Bool.{cases_Bool, and_parts, and_from, not-true, false_from_ne_true, cond_both, cases_eq, eq-eqb, ne_eqb}
+pub use Rattle.std.proofs.lemmas.Bool.{cases_Bool, and_parts, and_from, not-true, false_from_ne_true, cases_eq, eq-eqb, ne_eqb}
 pub use Rattle.std.proofs.lemmas.Bool.Decides.{nat_tests, Decides-eqb, Decides-int_eq}
 pub use Rattle.std.proofs.lemmas.Cmp.{tied_itself}
 pub use Rattle.std.proofs.lemmas.Int.{ints}
-pub use Rattle.std.proofs.lemmas.List.{take_more, map-append}
-pub use Rattle.std.proofs.lemmas.List.Sorted.{list_any-IsPermutation, IsPermutation-map, length_permutation}
+pub use Rattle.std.proofs.lemmas.List.{take_more, map-append, length-map}
+pub use Rattle.std.proofs.lemmas.List.Sorted.{list_any-IsPermutation, IsPermutation-map, IsPermutation-sym, Contains-permutation, length_permutation}
 pub use Rattle.std.proofs.lemmas.Map.Text.{is_eq-slice_cmp}
 pub use Rattle.std.proofs.lemmas.Slice.Eq.{bytes_eq-Decides}
 pub use Rattle.sqlite.specs.Cast.{cast, cast_all}
@@ -37,7 +37,7 @@ pub use Rattle.sqlite_catalog.specs.Listing.{IsSound}
 pub use Rattle.sqlite_rules.specs.Action.{works, work_for}
 pub use Rattle.sqlite_rules.specs.Calls.{ids_of}
 pub use Rattle.sqlite_rules.specs.Cast.{cast_row}
-pub use Rattle.sqlite_rules.specs.Edit.{is_taken, id_in, next_rowid, without_all, Edit, put_all, with_rowid, are_fresh}
+pub use Rattle.sqlite_rules.specs.Edit.{is_taken, id_in, next_rowid, without_all, Edit, put_all, numbered, with_rowid, are_fresh}
 pub use Rattle.sqlite_rules.specs.Lists.{Has}
 pub use Rattle.sqlite_schema.specs.Rules.{equal, agree, differ, clashes, guards, passes as passes_rule}
 pub use Rattle.sqlite_schema.specs.declared.command.Command.{Command}
@@ -62,11 +62,11 @@ pub use Rattle.sqlite_value.specs.declared.value.Value.TheVariants.{Null, Int, R
 pub use Rattle.sqlite_value.specs.declared.value.ValueRef.{ValueRef}
 pub use Rattle.sqlite.proofs.Callers.{IsPlain, one_step, one_permutation}
 pub use Rattle.sqlite.proofs.StateLemmas.{survives_then}
-pub use Rattle.sqlite_keyed.proofs.ListLemmas.{map-map, all-append, all_map, all_weaker, ascending-filter, ascending-append, all-filter, ascending-map, ascending_weaker, all_both, all-slice_get, none_from_any, map_same}
+pub use Rattle.sqlite_keyed.proofs.ListLemmas.{map-map, all-append, all_map, all_weaker, ascending-filter, all-filter, ascending-map, ascending_weaker, all_both, all-slice_get, none_from_any, map_same}
 pub use Rattle.sqlite_keyed.proofs.SortLemmas.{sorted_unique}
-pub use Rattle.sqlite_rules.proofs.ListLemmas.{all_has, all_from, test_has, some_from, has_filtered, some_has, has_kept}
+pub use Rattle.sqlite_rules.proofs.ListLemmas.{all_has, all_from, test_has, some_from, has_filtered, some_has, has_kept, has_contained, contains_had}
 pub use Rattle.sqlite_rules.proofs.PlaceLemmas.{tied_same}
-pub use Rattle.sqlite_rules.proofs.TableLemmas.{has_put, int_is, put_has, put_all_keeps}
+pub use Rattle.sqlite_rules.proofs.TableLemmas.{has_put, int_is, put_has, put_all_has, put_all_keeps, put_all_adds}
 pub use Rattle.sqlite_sql.proofs.QueryLemmas.{output_cmp_total}
 pub use Rattle.sqlite_trees.proofs.TreeLemmas.{IsTable-put_row}
 pub use Rattle.sqlite_value.proofs.OrderLemmas.{value_cmp-Text, value_cmp-Int, value_cmp-apart, value_cmp_total}
@@ -79,7 +79,7 @@ pub use Rattle.commands.specs.declared.rows.CardKind.TheVariants.{Receipt, Write
 pub use Rattle.commands.specs.declared.rows.OrderState.{OrderState}
 pub use Rattle.commands.specs.declared.rows.OrderState.TheVariants.{Open, Done, Cancelled}
 pub use Rattle.table_words.specs.Calls.{Reads, ShowsForeign}
-pub use Rattle.table_words.specs.Cells.{typed, is_word, is_the_text, is_number, is_count, is_the_number, number_in, flag_number, flag_in, is_bin_kind, bin_kind_in, is_order_state, is_open_state, order_state_in, is_card_kind, card_kind_in}
+pub use Rattle.table_words.specs.Cells.{typed, is_word, is_the_text, is_number, is_count, is_the_number, number_in, flag_number, flag_in, bin_kind_in, is_open_state, order_state_in, card_kind_in}
 pub use Rattle.table_words.specs.Changed.{Changed}
 pub use Rattle.table_words.specs.Found.{AreRows, no_two, only_if}
 pub use Rattle.table_words.specs.Rows.{IsRows}

@@ -3,11 +3,10 @@ use Rattle.sqlite.specs.declared.types.Value.{Value}
 use Rattle.sqlite.specs.declared.types.Value.TheVariants.{Null, Int}
 use Rattle.sqlite.specs.Order.{Row}
 use Rattle.sqlite.specs.Ops.{unary}
-use Rattle.sqlite.specs.Edit.{next_rowid}
 use Rattle.std.specs.List.Sorted.{IsPermutation}
-use Rattle.table_words.proofs.Words.{◌≡◌, ◌≢◌, ◌⊎◌, inl, inr, ℕ, ℤ, ◌/◌, ◌≤◌, Option, unwrap_or, IsTrue, map, ap₂, arith, Bool, true, false, not, cond, List, [], ◌∷◌, ◌++◌, filter, length, slice_get, Some, None, Ok, Err, Result, refl, sym, ap, subst, ◌∙◌, cases_eq, eq-eqb, ne_eqb, and_parts, not-true, AllByRecursion, all_weaker, map_same, Term, col, IsAnswer, overlay, Table, Schema, Integer, Values, Insert, Update, Delete, edit_of, edited, taken_by, Edit, without_all, put_all, with_rowid, is_taken, are_fresh, Has, has_filtered, all_has, int_is, rowid, put_row, is_int, Order, Command, length_permutation, cast, cast_all, cast_row, Given, Chosen, ids_of, works, Enforced, Column, Tally, Does, AtPlace, OnRows, Written, Task, Database, value_rows, Trees, with_tree, State, mode_of, Writes, one_step, one_permutation, plain_table, IsRows, Changed}
+use Rattle.table_words.proofs.Words.{◌≡◌, ◌≢◌, ◌⊎◌, inl, inr, ℕ, ◌/◌, ◌≤◌, Option, unwrap_or, IsTrue, map, ap₂, arith, Bool, true, false, not, cond, List, [], ◌∷◌, ◌++◌, filter, length, slice_get, Some, None, Ok, Err, Result, refl, sym, ap, subst, ◌∙◌, cases_eq, eq-eqb, ne_eqb, and_parts, not-true, AllByRecursion, all_weaker, map_same, Term, col, IsAnswer, overlay, Table, Schema, Integer, Values, Insert, Update, Delete, edit_of, edited, taken_by, Edit, put_all, with_rowid, is_taken, are_fresh, Has, has_filtered, all_has, int_is, rowid, put_row, is_int, Order, Command, length_permutation, cast, cast_all, cast_row, Given, Chosen, ids_of, works, Enforced, Column, Tally, Does, AtPlace, OnRows, Written, Task, Database, value_rows, Trees, with_tree, State, mode_of, Writes, one_step, one_permutation, plain_table, IsRows, Changed, numbered, IsPermutation-map, map-map, drop, length-map}
 use Rattle.table_words.proofs.Plans.{scan, alone}
-use Rattle.table_words.proofs.ListLemmas.{gone_is, put_back, over, none_over, none_pass}
+use Rattle.table_words.proofs.ListLemmas.{gone_is, put_back, rewritten, map_same_on}
 use Rattle.table_words.proofs.ScanLemmas.{passes, show, scanned}
 
 either : (b : Bool) (x : Value) → cond b x x ≡ x
@@ -40,6 +39,11 @@ trees_from db next tree rows tables here others = all_weaker _ (λ t. next t.tre
   | inl e ↦ rw (eq-eqb t.tree tree e) (ap next e ∙ here)
   | inr ne ↦ rw (ne_eqb t.tree tree ne) (kept ne)
 ]) tables others
+
+-- rows whose rowids are given keep them
+numbers_stay : (news rows : List Row) → numbered Given rows news ≡ news
+numbers_stay [] rows = refl
+numbers_stay (r ∷ news) rows = ap (λ l. r ∷ l) (numbers_stay news (put_row r rows))
 
 module _ (schema : Schema) (at tree : ℕ) (name : List ℕ) (columns : List Column) (key : Option ℕ) (places : List ℕ) (uniques : List (List ℕ)) (orders : List Order) (found : slice_get schema.tables at ≡ Some (plain_table tree name columns key places uniques orders))
     (alone_is : (olds news : List Row) → works schema Enforced 0 tree olds news ≡ []) where
@@ -98,68 +102,58 @@ module _ (schema : Schema) (at tree : ℕ) (name : List ℕ) (columns : List Col
       let is : new.now ≡ record { schema = schema; trees = written.0 } = now ∙ ap (λ (t : Trees). let d : Database = record { schema = schema; trees = t } in d) trees in
       (changed _ old new w is (trees_from db written.0 tree _ schema.tables (applies.rows ∙ rows) applies.tables), not-true _ (and_parts _ _ fresh).0)
 
-  -- the row has the next rowid
-  pub inserts : (old new : State) (terms : List Term) (width : ℕ) (text : List ℕ) (params values : Row) (count : ℕ) → old.now.schema ≡ schema
-      → value_rows (params ++ []) width (length terms / width) terms ≡ (Null ∷ values) ∷ [] → cast_all columns values ≡ values
-      → Writes old new None (Insert at (Values terms width)) text params count
-      → Changed schema tree (put_row (Int (next_rowid (old.now.trees tree)) ∷ values) (old.now.trees tree)) old.now new.now × (is_taken (old.now.trees tree) (Int (next_rowid (old.now.trees tree)) ∷ values) ≡ false)
-  inserts old new terms width text params values count has source fits w = goes_in old new terms width text params (Null ∷ values) (Null ∷ values) count has source (rw (cast_null, fits) refl) w
-
-  -- the rowid is that of the PRIMARY KEY
-  pub inserts_at : (old new : State) (id : ℤ) (terms : List Term) (width : ℕ) (text : List ℕ) (params values : Row) (count : ℕ) → old.now.schema ≡ schema
-      → value_rows (params ++ []) width (length terms / width) terms ≡ (Int id ∷ values) ∷ [] → cast_all columns values ≡ values
-      → Writes old new None (Insert at (Values terms width)) text params count
-      → Changed schema tree (put_row (Int id ∷ values) (old.now.trees tree)) old.now new.now × (is_taken (old.now.trees tree) (Int id ∷ values) ≡ false)
-  inserts_at old new id terms width text params values count has source fits w = goes_in old new terms width text params (Int id ∷ values) (Int id ∷ values) count has source (rw (cast_number id, fits) refl) w
-
-  -- the one row that passes gets these columns, if there is one
-  pub updates : (old new : State) (tests cells : List Term) (text : List ℕ) (params values : Row) (count : ℕ) → old.now.schema ≡ schema → IsRows (old.now.trees tree)
-      → ((r : Row) → show params cells r ≡ values) → cast_all columns values ≡ values → length (filter (passes params tests) (old.now.trees tree)) ≤ 1
+  -- each row that passes gets columns of its own
+  pub updates : (old new : State) (tests cells : List Term) (text : List ℕ) (params : Row) (values : Row → Row) (count : ℕ) → old.now.schema ≡ schema → IsRows (old.now.trees tree)
+      → ((r : Row) → show params cells r ≡ values r) → ((r : Row) → Has (old.now.trees tree) r → passes params tests r ≡ true → cast_all columns (values r) ≡ values r)
       → Writes old new None (Update at (alone (scan tree tests (col 1 0 ∷ col 1 0 ∷ cells) []))) text params count
-      → Changed schema tree (over (passes params tests) values (old.now.trees tree)) old.now new.now × (count ≡ length (filter (passes params tests) (old.now.trees tree)))
-  updates old new tests cells text params values count has kept cells_are fits one w =
+      → Changed schema tree (rewritten (passes params tests) values (old.now.trees tree)) old.now new.now × (count ≡ length (filter (passes params tests) (old.now.trees tree)))
+  updates old new tests cells text params values count has kept cells_are fit w =
       let db = old.now.trees in
+      let p = passes params tests in
       let shown = col 1 0 ∷ col 1 0 ∷ cells in
-      let p = alone (scan tree tests shown []) in
-      let whole = subst (λ s. Does old.step_limit (mode_of old) params (record old.now { schema = s }) text None (Update at p) (Ok (w.tally, new.now))) has w.changed in
+      let program = alone (scan tree tests shown []) in
+      let whole = subst (λ s. Does old.step_limit (mode_of old) params (record old.now { schema = s }) text None (Update at program) (Ok (w.tally, new.now))) has w.changed in
       let task = λ (t : Table). let k : Task = record { limit = old.step_limit; keys = Enforced; schema = schema; table = t; params = params } in k in
-      let done = went (subst (λ o. AtPlace (λ t. OnRows (task t) (mode_of old) None (Update at p) db) o (Ok (w.tally, new.now))) found whole) in
+      let done = went (subst (λ o. AtPlace (λ t. OnRows (task t) (mode_of old) None (Update at program) db) o (Ok (w.tally, new.now))) found whole) in
       let last = same_value (went (went done.2).2).2 in
       let now = ap (λ (p : Tally × Database). p.1) last in
       let given = went done.1 in
       let wrote = went given.2 in
       let written = same_value wrote.2 in
       let trees : done.0.trees ≡ wrote.0 = ap (λ (it : Written). it.trees) written in
-      let edit = λ (rows : List Row). edit_of db table (ids_of rows) Given 1 rows in
+      let edit : Edit = edit_of db table (ids_of given.0) Given 1 given.0 in
       let a : IsAnswer (scan tree tests shown []) (overlay db []) params given.0 = given.1.answer Null in
-      let applies = one_step schema Enforced db wrote.0 (edit given.0) (alone_is (taken_by db (edit given.0)) (edit given.0).news) wrote.1 in
-      let all : IsPermutation (map (λ r. rowid r ∷ rowid r ∷ values) (filter (passes params tests) (db tree))) given.0 =
-      subst (λ l. IsPermutation l given.0) (map_same _ (λ r. rowid r ∷ rowid r ∷ values) (λ r. ap (λ l. rowid r ∷ rowid r ∷ l) (cells_are r)) _) (scanned db params tree tests shown [] given.0 a) in
-      let gone = gone_is (passes params tests) (λ r. rowid r ∷ values) (db tree) given.0 kept all in
-      let counted : count ≡ length (edit given.0).news = w.counted ∙ ap (λ (p : Tally × Database). unwrap_or p.0.rows 0) last ∙ ap (λ (it : Written). length it.rows) written in
-      let both = rewritten (filter (passes params tests) (db tree)) refl one given.0 all gone in
-      let is : new.now ≡ record { schema = schema; trees = wrote.0 } = now ∙ ap (λ (t : Trees). let d : Database = record { schema = schema; trees = t } in d) trees in
-      (changed _ old new w is (trees_from db wrote.0 tree _ schema.tables (applies.rows ∙ both.0) applies.tables), counted ∙ both.1)
+      let applies = one_step schema Enforced db wrote.0 edit (alone_is (taken_by db edit) edit.news) wrote.1 in
+      let all : IsPermutation (map (λ r. rowid r ∷ rowid r ∷ values r) (filter p (db tree))) given.0 =
+      subst (λ l. IsPermutation l given.0) (map_same _ (λ r. rowid r ∷ rowid r ∷ values r) (λ r. ap (λ l. rowid r ∷ rowid r ∷ l) (cells_are r)) _) (scanned db params tree tests shown [] given.0 a) in
+      let gone = gone_is p (λ r. rowid r ∷ values r) (db tree) given.0 kept all in
+      let news = again given.0 kept fit all in
+      let rows : edited db edit ≡ rewritten p values (db tree) =
+      ap (λ l. put_all l edit.news) gone ∙ put_back p values (db tree) edit.news kept news (subst (λ l. are_fresh l edit.news ≡ true) gone applies.fresh) in
+      let counted : count ≡ length edit.news = w.counted ∙ ap (λ (p : Tally × Database). unwrap_or p.0.rows 0) last ∙ ap (λ (it : Written). length it.rows) written in
+      let is : new.now ≡ record { schema = schema; trees = wrote.0 } = now ∙ ap (λ (t : Trees). let d : Database = record { schema = schema; trees = t } in d) trees in (
+        changed _ old new w is (trees_from db wrote.0 tree _ schema.tables (applies.rows ∙ rows) applies.tables),
+        counted ∙ length_permutation (map (λ r. rowid r ∷ values r) (filter p (db tree))) edit.news news ∙ length-map (filter p (db tree)) (λ r. rowid r ∷ values r),
+      )
     where
-      edit_by : List Row → Edit
-      edit_by rows = edit_of old.now.trees table (ids_of rows) Given 1 rows
+      written_as : Row → Row
+      written_as s = cast_row table (drop 1 s)
 
-      rewritten : (there : List Row) → filter (passes params tests) (old.now.trees tree) ≡ there → length there ≤ 1 → (given : List Row) → IsPermutation (map (λ r. rowid r ∷ rowid r ∷ values) there) given
-          → without_all (old.now.trees tree) (ids_of given) ≡ filter (λ r. not (passes params tests r)) (old.now.trees tree)
-          → (edited old.now.trees (edit_by given) ≡ over (passes params tests) values (old.now.trees tree)) × (length (edit_by given).news ≡ length there)
-      rewritten [] is few given all gone =
-          let none : given ≡ [] = nothing_in given all in
-          (ap (λ l. edited old.now.trees (edit_by l)) none ∙ sym (none_over (passes params tests) values (old.now.trees tree) (none_pass (passes params tests) (old.now.trees tree) is)), ap (λ l. length (edit_by l).news) none)
-      rewritten (x ∷ []) is few given all gone =
-          let only : given ≡ (rowid x ∷ rowid x ∷ values) ∷ [] = one_permutation (rowid x ∷ rowid x ∷ values) given all in
-          let there = has_filtered (passes params tests) (old.now.trees tree) x (subst (λ l. Has l x) (sym is) (inl refl)) in
-          let keyed = int_is (rowid x) (all_has (λ r. IsTrue (is_int (rowid r))) (old.now.trees tree) x kept.1 there.0) in
-          let casted : cast Integer (rowid x) ≡ rowid x = ap (cast Integer) keyed ∙ cast_number _ ∙ sym keyed in
-          let news : (edit_by given).news ≡ (rowid x ∷ values) ∷ [] = ap (λ l. (edit_by l).news) only ∙ ap₂ (λ id more. let r : Row = id ∷ more in r ∷ []) casted fits in (
-            ap₂ put_all gone news ∙ put_back (passes params tests) values (old.now.trees tree) x kept.0 is,
-            ap length news,
-          )
-      rewritten (x ∷ y ∷ more) is few given all gone = absurd (omega arith)
+      -- what goes in is what the rows that pass have from now on
+      again : (given : List Row) → IsRows (old.now.trees tree) → ((r : Row) → Has (old.now.trees tree) r → passes params tests r ≡ true → cast_all columns (values r) ≡ values r)
+          → IsPermutation (map (λ r. rowid r ∷ rowid r ∷ values r) (filter (passes params tests) (old.now.trees tree))) given
+          → IsPermutation (map (λ r. rowid r ∷ values r) (filter (passes params tests) (old.now.trees tree))) (edit_of old.now.trees table (ids_of given) Given 1 given).news
+      again given kept fit all =
+          let rows = old.now.trees tree in
+          let there = filter (passes params tests) rows in
+          let same : map written_as (map (λ r. rowid r ∷ rowid r ∷ values r) there) ≡ map (λ r. rowid r ∷ values r) there =
+          map-map written_as (λ r. rowid r ∷ rowid r ∷ values r) there
+          ∙ map_same_on _ (λ r. rowid r ∷ values r) there (λ r h.
+          let own = has_filtered (passes params tests) rows r h in
+          let keyed = int_is (rowid r) (all_has (λ r. IsTrue (is_int (rowid r))) rows r kept.1 own.0) in
+          ap₂ ◌∷◌ (ap (cast Integer) keyed ∙ cast_number _ ∙ sym keyed) (fit r own.0 own.1)) in
+          subst (λ l. IsPermutation l (edit_of old.now.trees table (ids_of given) Given 1 given).news) same
+          (subst (IsPermutation (map written_as (map (λ r. rowid r ∷ rowid r ∷ values r) there))) (sym (numbers_stay (map written_as given) _)) (IsPermutation-map written_as _ given all))
 
 -- the one row that passes, in whatever order it is shown
 pub only_shown : (params : Row) (shown : List Term) (there : List Row) → length there ≤ 1 → (found : List Row) → IsPermutation (map (show params shown) there) found → found ≡ map (show params shown) there

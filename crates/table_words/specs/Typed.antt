@@ -308,10 +308,6 @@ same_repeat a b = bytes_eq a b
 abbrev pub repeat_key : RepeatRow → RepeatKey
 repeat_key s = s.k
 
--- the stored rows of this k
-abbrev pub repeats_of_rows : List ℕ → Trees → List Row
-repeats_of_rows k trees = filter (λ r. is_the_text k (column r 1)) (trees repeats_tree)
-
 -- ---- the tables
 
 abbrev pub tables_in : Trees → Tables
@@ -401,18 +397,6 @@ with_least s t = record t { least = λ at_gtin. if same_least at_gtin (least_key
 abbrev pub with_bin : BinRow → Tables → Tables
 with_bin s t = record t { bin = λ at_name. if same_bin at_name (bin_key s) then Some s else t.bin at_name }
 
-abbrev pub with_lot : LotRow → Tables → Tables
-with_lot s t = record t { lot = λ at_lot. if same_lot at_lot (lot_key s) then Some s else t.lot at_lot }
-
-abbrev pub with_recall : RecallRow → Tables → Tables
-with_recall s t = record t { recall = λ at_lot. if same_recall at_lot (recall_key s) then Some s else t.recall at_lot }
-
-abbrev pub with_stock : StockRow → Tables → Tables
-with_stock s t = record t { stock = λ at_lot at_bin. if same_stock (at_lot, at_bin) (stock_key s) then Some s else t.stock at_lot at_bin }
-
-abbrev pub without_stock : LotId → List ℕ → Tables → Tables
-without_stock lot bin t = record t { stock = λ at_lot at_bin. if same_stock (at_lot, at_bin) (lot, bin) then None else t.stock at_lot at_bin }
-
 abbrev pub with_order : OrderRow → Tables → Tables
 with_order s t = record t { order = λ at_order. if same_order at_order (order_key s) then Some s else t.order at_order }
 
@@ -422,26 +406,8 @@ with_urgent s t = record t { urgent = λ at_order. if same_urgent at_order (urge
 abbrev pub with_line : LineRow → Tables → Tables
 with_line s t = record t { line = λ at_order at_gtin. if same_line (at_order, at_gtin) (line_key s) then Some s else t.line at_order at_gtin }
 
-abbrev pub with_staged : StagedRow → Tables → Tables
-with_staged s t = record t { staged = λ at_order at_lot. if same_staged (at_order, at_lot) (staged_key s) then Some s else t.staged at_order at_lot }
-
 abbrev pub without_staged : List ℕ → LotId → Tables → Tables
 without_staged order lot t = record t { staged = λ at_order at_lot. if same_staged (at_order, at_lot) (order, lot) then None else t.staged at_order at_lot }
-
-abbrev pub with_reserved : ReservedRow → Tables → Tables
-with_reserved s t = record t { reserved = λ at_order at_lot. if same_reserved (at_order, at_lot) (reserved_key s) then Some s else t.reserved at_order at_lot }
-
-abbrev pub without_reserved : List ℕ → LotId → Tables → Tables
-without_reserved order lot t = record t { reserved = λ at_order at_lot. if same_reserved (at_order, at_lot) (order, lot) then None else t.reserved at_order at_lot }
-
-abbrev pub with_shipment : ShipmentRow → Tables → Tables
-with_shipment s t = record t { shipment = λ at_number. if same_shipment at_number (shipment_key s) then Some s else t.shipment at_number }
-
-abbrev pub with_shipline : ShiplineRow → Tables → Tables
-with_shipline s t = record t { shipline = λ at_number at_lot. if same_shipline (at_number, at_lot) (shipline_key s) then Some s else t.shipline at_number at_lot }
-
-abbrev pub with_card : CardRow → Tables → Tables
-with_card s t = record t { card = λ at_lot at_act. if same_card (at_lot, at_act) (card_key s) then Some s else t.card at_lot at_act }
 
 abbrev pub with_repeat : RepeatRow → Tables → Tables
 with_repeat s t = record t { repeat = λ at_k. if same_repeat at_k (repeat_key s) then Some s else t.repeat at_k }

@@ -1,5 +1,5 @@
 -- What a statement makes of the books that drops the rows whose keys pass a test, of any table that keeps the laws.
-use Rattle.tables.proofs.Words.{◌≡◌, ℕ, Bool, true, false, not, List, [], ◌∷◌, filter, inl, inr, refl, sym, ap, ◌∙◌, if◌then◌else◌, find, Option, Some, None, cases_Bool, Row, Term, State, Trees, runs_as, all-filter, schema_with, typed, tables_in, IsReady, Goes, Counts, IsRows-filter, passes, deletes, typed-filter, sets_off_nothing, goes, typed_put, Described, IsLawful, found, rule_of, rows_of, typed_rows, without_rows, DropsBy}
+use Rattle.tables.proofs.Words.{◌≡◌, ℕ, Bool, true, false, not, List, [], ◌∷◌, filter, inl, inr, refl, sym, ap, ◌∙◌, if◌then◌else◌, find, None, cases_Bool, Row, Term, State, Trees, runs_as, all-filter, schema_with, typed, tables_in, IsReady, Goes, Counts, IsRows-filter, passes, deletes, typed-filter, sets_off_nothing, goes, typed_put, Described, IsLawful, found, rule_of, rows_of, typed_rows, without_rows, DropsBy}
 
 -- what is found among those that stay, where all that pass the test go or all stay
 found_left : {X : Type 0} (gone test : X → Bool) (hit : Bool) → ((x : X) → test x ≡ true → gone x ≡ hit) → (xs : List X) → find test (filter (λ x. not (gone x)) xs) ≡ (if hit then None else find test xs)

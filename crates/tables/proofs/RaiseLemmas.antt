@@ -1,5 +1,5 @@
 -- What the statement that changes the row of `meta` makes of books of an older schema number.
-use Rattle.tables.proofs.Words.{◌≡◌, ◌≢◌, ℕ, Bool, true, false, List, [], ◌∷◌, drop, filter, find, length, inl, inr, None, IsTrue, refl, sym, ap, subst, ◌∙◌, AllByRecursion, cases_Bool, and_parts, true≢false, Int, ◌↔◌, pos, map, Row, column, State, with_tree, runs_as, all_both, rowid, is_int, SCHEMA_VERSION, MetaRow, CHANGE_META, meta, meta_laws, change_meta, change_meta_laws, Counts, is_the_number, Changed, meta_tree, the_tables, schema_with, IsReady, Goes, is_meta, is_meta_at, meta_in, same_meta, meta_key, meta_rows_rows, meta_at, with_meta, the_rules, Rule, Keeps, AreTyped, AreTypedAt, none_counted_pass, passes, updates, and_true, same_the_number, equals_number, front, sets_off_nothing, few, sound, changes, rows_of}
+use Rattle.tables.proofs.Words.{◌≡◌, ◌≢◌, ℕ, Bool, true, false, List, [], ◌∷◌, drop, filter, find, length, inl, inr, None, IsTrue, refl, sym, ap, subst, ◌∙◌, AllByRecursion, cases_Bool, and_parts, true≢false, Int, ◌↔◌, pos, map, Row, column, State, with_tree, runs_as, all_both, rowid, is_int, SCHEMA_VERSION, MetaRow, CHANGE_META, meta, meta_laws, change_meta, change_meta_laws, Counts, is_the_number, Changed, meta_tree, the_tables, schema_with, IsReady, Goes, is_meta, is_meta_at, meta_in, same_meta, meta_key, meta_rows_rows, meta_at, with_meta, the_rules, Rule, Keeps, AreTyped, AreTypedAt, none_counted_pass, passes, updates, and_true, same_the_number, equals_number, front, sets_off_nothing, sound, changes, rows_of}
 use Rattle.table_words.proofs.ListLemmas.{over}
 
 -- a row of `meta` is found by its id, whatever its number
@@ -29,8 +29,8 @@ module _ (s : MetaRow) (good : sound meta s ≡ true) (old new : State) (count :
       let rest = ready.has.rest in
       let kept = rows_of meta meta_laws old.now ready in
       let w = runs_as change_meta.text (meta.cells s) old new (schema_with rest) ready.has.is _ (change_meta_laws.is rest).0 (change_meta_laws.is rest).1 count h.executes.0 in
-      updates (schema_with rest) meta.place meta_tree _ _ _ _ _ _ (meta_laws.placed rest) (λ olds news. sets_off_nothing rest meta_tree olds news ready.has.apart) old new meta.tests change_meta.terms _ (meta.cells s) (change_meta.values s) count ready.has.is kept
-      (change_meta_laws.changed s) (change_meta_laws.casts s) (few p rows kept.0 (meta_laws.one_row old.now ready (meta.cells s))) w
+      updates (schema_with rest) meta.place meta_tree _ _ _ _ _ _ (meta_laws.placed rest) (λ olds news. sets_off_nothing rest meta_tree olds news ready.has.apart) old new meta.tests change_meta.terms _ (meta.cells s) (λ _. change_meta.values s) count ready.has.is kept
+      (change_meta_laws.changed s) (λ _ _ _. change_meta_laws.casts s) w
 
   pub raised_some : count ≢ 0 → Goes (with_meta s) old new
   raised_some some = (changes meta meta_laws change_meta change_meta_laws s good old new count ready h).0 some

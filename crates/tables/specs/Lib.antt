@@ -7,6 +7,7 @@ pub mod Lots
 pub mod Recalls
 pub mod Stock
 pub mod Dropping
+pub mod Filling
 pub mod Orders
 pub mod Lines
 pub mod Staged

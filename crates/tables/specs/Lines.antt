@@ -1,8 +1,9 @@
 -- The table `lines`.
-use Rattle.std.specs.Prelude.{◌∷◌}
-use Rattle.tables.specs.Words.{ℕ, bytes_eq, List, [], codes, refl, pos, and_parts, Text, is_gtin, is_name, Tables, LineRow, ADD_LINE, CHANGE_LINE, LINES_OF_ORDER, LINE_OF, one, pair, text_stored, lines_tree, lines_table, LineKey, same_line, line_key, line_mapping, cast_number, cast_null, same_both, same_bytes, itself_both, itself_bytes, Described, IsLawful, AddIs, Change, ChangeIs, IsChange, key_found, Asks, of_key, by_text, by_key, AreSought, IsText, IsAsked, IsMapped, planned, whole_change, one_keyed}
+use Rattle.std.specs.Prelude.{◌∷◌, if◌then◌else◌, option_map}
+use Rattle.tables.specs.Words.{ℕ, bytes_eq, List, [], codes, refl, pos, and_parts, Text, Int, Binary, Compare, Le, Ge, Term, col, lit, op2, same, is_gtin, is_name, Tables, LineRow, ADD_LINE, CHANGE_LINE, FILL_LINES, LINES_OF_ORDER, LINE_OF, one, pair, text_stored, lines_tree, lines_table, LineKey, same_line, line_key, line_mapping, cast_number, cast_null, same_both, same_bytes, itself_both, itself_bytes, Described, IsLawful, AddIs, Change, ChangeIs, IsChange, key_found, Asks, of_key, by_text, by_key, AreSought, IsText, IsAsked, IsMapped, planned, whole_change, one_keyed}
 use Rattle.sqlite.specs.Listing.{understood}
 use Rattle.sqlite_tied.specs.Compute.{everything}
+use Rattle.tables.specs.Filling.{FillsBy}
 
 -- what the table is
 abbrev pub lines : Described LineRow LineKey
@@ -37,6 +38,22 @@ line_of = by_key LINE_OF.now (of_key 1 (λ k. k.0) ∷ of_key 2 (λ k. k.1) ∷ 
 
 abbrev pub AreLineOf : LineKey → Tables → List LineRow → Type 0
 AreLineOf = AreSought lines line_of
+
+-- those of an order whose shipped units are none that a line cannot have
+abbrev pub filled_tests : List Term
+filled_tests = same 1 0 ∷ op2 (Compare Ge Binary) (col 1 4) (lit (Int (pos 0))) ∷ op2 (Compare Le Binary) (col 1 4) (col 0 1) ∷ []
+
+-- as many are shipped as were ordered
+abbrev pub filled_columns : List Term
+filled_columns = col 1 1 ∷ col 1 2 ∷ col 1 3 ∷ col 1 3 ∷ []
+
+-- a line of which all units are shipped
+abbrev pub filled_line : LineRow → LineRow
+filled_line line = record line { shipped = line.ordered }
+
+-- all units of each line of an order are shipped
+abbrev pub lines_filled : List ℕ → Tables → Tables
+lines_filled name t = record t { line = λ at_order gtin. if bytes_eq name at_order then option_map filled_line (t.line at_order gtin) else t.line at_order gtin }
 
 -- ---- what holds of them
 
@@ -93,3 +110,7 @@ lines_of_order_laws = record { few = refl; fits = λ by. refl; cells = λ by. re
 pub line_of_laws : IsAsked (pair (text_stored is_name) (one (text_stored is_gtin))) 2 lines line_of
 unfolding understood everything
 line_of_laws = record { few = refl; fits = λ by. refl; cells = λ by. refl; is = λ rest. (refl, refl, (refl, refl)); texts = (order_text, (gtin_text, tt)) }
+
+pub lines_fill_is : FillsBy lines filled_tests filled_columns FILL_LINES.now
+unfolding understood everything
+lines_fill_is rest = (refl, (refl, refl))

@@ -3,18 +3,18 @@ pub use Rattle.std.specs.Prelude.{ℕ, List, [], codes, nat_eq, true, bytes_eq, 
 pub use Rattle.std.proofs.Common.{refl, ap, ap₂, ◌∙◌, pos, sym, subst}
 pub use Rattle.std.proofs.lemmas.Bool.{and_parts}
 pub use Rattle.sqlite.specs.Collation.TheVariants.{Binary}
-pub use Rattle.sqlite.specs.Command.TheVariants.{Delete}
+pub use Rattle.sqlite.specs.Command.TheVariants.{Update, Delete}
 pub use Rattle.sqlite.specs.Given.{IsPlain}
 pub use Rattle.sqlite.specs.Order.{Row, column, bytes}
 pub use Rattle.sqlite.specs.Rowids.TheVariants.{Chosen}
 pub use Rattle.sqlite.specs.Schema.{Schema}
-pub use Rattle.sqlite.specs.Term.{Term, col, lit}
+pub use Rattle.sqlite.specs.Term.{Term, col, lit, op2}
 pub use Rattle.sqlite.specs.declared.types.Value.{Value}
 pub use Rattle.sqlite.specs.declared.types.Value.TheVariants.{Text, Int, Null}
 pub use Rattle.sqlite_rules.specs.Edit.{with_rowid}
 pub use Rattle.sqlite_sql.specs.Ops.{binary, is_true}
 pub use Rattle.sqlite_sql.specs.declared.ops.BinaryOp.TheVariants.{Compare}
-pub use Rattle.sqlite_sql.specs.declared.ops.CompareOp.TheVariants.{Gt}
+pub use Rattle.sqlite_sql.specs.declared.ops.CompareOp.TheVariants.{Le, Gt, Ge}
 pub use Rattle.sqlite_trees.specs.Tree.{rowid}
 pub use Rattle.sqlite_trees.specs.View.{is_int}
 pub use Rattle.sqlite.proofs.Callers.{command_of}
@@ -59,5 +59,5 @@ pub use Rattle.keyed_rows.proofs.Laws.{one_keyed, rows_of, found_by_key, found_b
 pub use Rattle.tables.specs.declared.goods_texts.TheConstants.{ADD_BIN, BINS_OF, ALL_BINS, ADD_ITEM, ITEMS_OF, ALL_ITEMS, CHANGE_LEAST, ADD_LEAST, LEAST_OF, ASKING_LEAST, ADD_LOT, CHANGE_LOT, LOTS_OF, LOT_OF, ALL_LOTS, ADD_META, CHANGE_META, ADD_RECALL, RECALLS_OF, ADD_STOCK, CHANGE_STOCK, STOCK_OF, STOCK_OF_LOT, STOCK_IN, DROP_STOCK}
 pub use Rattle.tables.specs.declared.history_texts.TheConstants.{ADD_CARD, CARDS_OF, ADD_REPEAT, REPEATS_OF, ADD_SHIPLINE, ADD_SHIPMENT, SHIPMENTS_OF}
 pub use Rattle.tables.specs.declared.least.Asking.{Asking}
-pub use Rattle.tables.specs.declared.order_texts.TheConstants.{ADD_LINE, CHANGE_LINE, LINES_OF_ORDER, LINE_OF, ADD_ORDER, CHANGE_ORDER, ORDERS_OF, OPEN_ORDERS, ADD_RESERVED, CHANGE_RESERVED, RESERVED_OF_ITEM, RESERVED_OF_ORDER, RESERVED_OF, DROP_RESERVED, ADD_STAGED, CHANGE_STAGED, STAGED_OF_ITEM, STAGED_OF_ORDER, STAGED_OF, ALL_STAGED, DROP_STAGED, DROP_STAGE, ADD_URGENT, URGENTS_OF, ALL_URGENTS}
+pub use Rattle.tables.specs.declared.order_texts.TheConstants.{ADD_LINE, CHANGE_LINE, FILL_LINES, LINES_OF_ORDER, LINE_OF, ADD_ORDER, CHANGE_ORDER, ORDERS_OF, OPEN_ORDERS, ADD_RESERVED, CHANGE_RESERVED, RESERVED_OF_ITEM, RESERVED_OF_ORDER, RESERVED_OF, DROP_RESERVED, ADD_STAGED, CHANGE_STAGED, STAGED_OF_ITEM, STAGED_OF_ORDER, STAGED_OF, ALL_STAGED, DROP_STAGED, DROP_STAGE, ADD_URGENT, URGENTS_OF, ALL_URGENTS}
 pub use Rattle.tables.specs.declared.orders.Open.{Open}

@@ -1,11 +1,19 @@
 //! The table `lines`.
 
-use crate::order_texts::{ADD_LINE, CHANGE_LINE, LINE_OF, LINES_OF_ORDER};
+ghost use Rattle.std.specs.Prelude.{◌≡◌};
+ghost use Rattle.sqlite.specs.Held.{state};
+ghost use Rattle.keyed_rows.specs.Writes.{Writes};
+ghost use Rattle.tables.specs.Lines.{lines_filled};
+
+use crate::order_texts::{ADD_LINE, CHANGE_LINE, FILL_LINES, LINE_OF, LINES_OF_ORDER};
 use commands::LineRow;
 use keyed_rows::mapped::Mapped;
 use keyed_rows::reading::SoughtBy;
+use keyed_rows::running::run_with;
 use keyed_rows::table::Changing;
+use sqlite::{Alter, Transaction};
 use table_words::column::{Count, Number, QTY};
+use table_words::error::TableFault;
 use values::{Gtin, Name};
 
 /// The table.
@@ -86,5 +94,18 @@ impl SoughtBy<(Name, Gtin)> for Lines {
 
     fn asking_text() -> &'static str {
         LINE_OF
+    }
+}
+
+/// Ships all units of each line of the order, by one statement. A row whose units are none that a line can have stays as it
+/// is.
+pub fn fill_lines<S: Alter>(tx: &mut Transaction<'_, S>, order: &Name) -> Result<(), TableFault>
+    ensures same_reference { tx.new.conn.ghost_name ≡ tx.old.conn.ghost_name }
+    ensures writes { Writes (lines_filled order.now) (state S.Store tx.old.conn.now) (state S.Store tx.new.conn.now) result }
+{
+    let most = Number::<QTY> { number: QTY };
+    match run_with(&(*order, most), tx, FILL_LINES) {
+        Ok(_) => Ok(()),
+        Err(fault) => Err(fault),
     }
 }

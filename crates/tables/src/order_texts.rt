@@ -3,6 +3,9 @@
 pub(crate) const CHANGE_LINE: &str =
     "UPDATE lines SET ord = ?1, gtin = ?2, ordered = ?3, shipped = ?4 WHERE ord = ?1 AND gtin = ?2";
 
+pub(crate) const FILL_LINES: &str =
+    "UPDATE lines SET shipped = ordered WHERE ord = ?1 AND shipped >= 0 AND shipped <= ?2";
+
 pub(crate) const ADD_LINE: &str =
     "INSERT INTO lines (ord, gtin, ordered, shipped) VALUES (?1, ?2, ?3, ?4)";
 
@@ -70,8 +73,9 @@ pub(crate) const URGENTS_OF: &str = "SELECT ord, act FROM urgents WHERE ord = ?1
 pub(crate) const ALL_URGENTS: &str = "SELECT ord, act FROM urgents ORDER BY rowid";
 
 /// All of them. A connection keeps the plans of its last 64 texts, so the tables together have at most 60.
-pub const TEXTS: [&str; 25] = [
+pub const TEXTS: [&str; 26] = [
     CHANGE_LINE,
+    FILL_LINES,
     ADD_LINE,
     LINES_OF_ORDER,
     LINE_OF,

@@ -57,7 +57,7 @@ pub use Rattle.commands.proofs.OneText.{small_line}
 pub use Rattle.commands.proofs.Printing.{is_printable, name_lacks}
 pub use Rattle.texts.specs.Card.{card_text, card_end, card_line}
 pub use Rattle.texts.specs.Lines.{head_line, lot_line, line}
-pub use Rattle.texts.specs.Notice.{notice_text}
+pub use Rattle.texts.specs.Notice.{notice_text, bin_line, shipment_line, notice_start, notice_end}
 pub use Rattle.texts.specs.PickList.{pick_list_text, pick_list_start, item_lines, from_line, item_line, take_lines, take_line}
 pub use Rattle.texts.specs.Reading.{Fields, lot_read, order_read, picking_read, own_key, business_day_read, field_at, line_read, line_at, lines_read, number_from, number_read, qty_read, counted_read, least_days_read, line_no_read, delta_read}
 unfoldable pub use Rattle.texts.specs.Reading.{command_read, key_read}

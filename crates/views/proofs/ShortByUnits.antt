@@ -1,5 +1,5 @@
 -- What a line is short of is told by the rows of units of its order and item.
-use Rattle.views.proofs.Words.{◌≡◌, ℕ, ◌-◌, Bool, ◌&&◌, List, ap, if◌then◌else◌, filter, same_text, LineRow, OrderRow, ReservedRow, StagedRow, of_item, total_given, is_cancelled_state, line_short}
+use Rattle.views.proofs.Words.{◌≡◌, ◌-◌, Bool, ◌&&◌, List, ap, if◌then◌else◌, filter, same_text, LineRow, OrderRow, ReservedRow, StagedRow, of_item, total_given, is_cancelled_state, line_short}
 
 pub short_by_own : (o : OrderRow) (l : LineRow) (on_stage staged : List StagedRow) (taken reserved : List ReservedRow)
     → filter (λ r. same_text o.order r.order && of_item l.gtin r.lot) on_stage ≡ filter (λ r. same_text o.order r.order && of_item l.gtin r.lot) staged

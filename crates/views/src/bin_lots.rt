@@ -1,8 +1,7 @@
 //! What is shown of the lots in a bin.
 
-ghost use Rattle.std.specs.Prelude.{◌≡◌, ◌+◌, ◌++◌, [], map, take, IfOk, OnOk, Some, ℤ, ℕ, List, Option, length};
+ghost use Rattle.std.specs.Prelude.{◌≡◌, ◌+◌, ◌++◌, [], map, take, IfOk, OnOk, Some, ℤ, List, Option, length};
 ghost use Rattle.std.specs.List.{cons_option};
-ghost use Rattle.commands.specs.declared.command.NewBin.{NewBin};
 ghost use Rattle.machine.specs.Acts.{Act};
 ghost use Rattle.machine.specs.Once.{IsHistory};
 ghost use Rattle.machine.specs.Standing.{KnownLot, today};

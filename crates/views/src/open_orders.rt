@@ -1,6 +1,6 @@
 //! What is shown of the open orders.
 
-ghost use Rattle.std.specs.Prelude.{◌≡◌, ◌+◌, ◌++◌, [], ◌∷◌, map, filter, take, if◌then◌else◌, IfOk, OnOk, ℤ, List, Option, length};
+ghost use Rattle.std.specs.Prelude.{◌≡◌, ◌+◌, ◌++◌, [], ◌∷◌, map, take, if◌then◌else◌, IfOk, OnOk, ℤ, List, Option, length};
 ghost use Rattle.values.specs.Values.{same_text};
 ghost use Rattle.machine.specs.Acts.{Act};
 ghost use Rattle.machine.specs.Once.{IsHistory};

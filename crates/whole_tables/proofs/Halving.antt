@@ -1,5 +1,5 @@
 -- What a query of half a table shows, and how the halves make the whole.
-use Rattle.whole_tables.proofs.Words.{◌≡◌, ◌↔◌, inl, inr, ℕ, ℤ, Bool, true, false, not, ◌&&◌, List, [], ◌∷◌, ◌++◌, ◌∙◌, Ordering, Less, Equal, Greater, is_le, is_gt, int_cmp, map, filter, true≢false, Some, Vec, Global, Result, Ok, Err, refl, sym, ap, ap₂, subst, arith, IsTrue, AllByRecursion, cases_Bool, ints, map-append, filter-append, Value, Null, Int, Real, Text, Blob, Binary, Database, Row, State, HasCleanDisk, Shown, reads_as, Compare, Le, Gt, is_true, from_truth, value_cmp, value_cmp-Int, all-append, all-filter, IsAscending, rowid, is_int, typed, schema_with, IsReady, TableFault, Foreign, inside_then, and_true, both_typed, shown_typed, show, in_order, Described, IsLawful, kept_rows, Half, Lower, Upper, HalvesAre, test_of, is_in, half_of, FindsHalf, FindsStored, rows_of}
+use Rattle.whole_tables.proofs.Words.{◌≡◌, ◌↔◌, inl, inr, ℕ, ℤ, Bool, true, false, not, List, [], ◌∷◌, ◌++◌, ◌∙◌, Ordering, Less, Equal, Greater, is_le, is_gt, int_cmp, map, filter, true≢false, Some, Vec, Global, Result, Ok, Err, refl, sym, ap, ap₂, subst, arith, IsTrue, AllByRecursion, cases_Bool, ints, map-append, filter-append, Value, Null, Int, Real, Text, Blob, Binary, Database, Row, State, HasCleanDisk, Shown, reads_as, Compare, Le, Gt, is_true, from_truth, value_cmp, value_cmp-Int, all-append, all-filter, IsAscending, rowid, is_int, typed, schema_with, IsReady, TableFault, inside_then, and_true, both_typed, shown_typed, show, in_order, Described, IsLawful, kept_rows, Half, Lower, Upper, HalvesAre, test_of, is_in, half_of, FindsHalf, FindsStored, rows_of}
 use Rattle.sqlite_sql.specs.Ops.{binary}
 use Rattle.whole_tables.proofs.Calls.{unchanged_then, earlier}
 

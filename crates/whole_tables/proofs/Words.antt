@@ -4,7 +4,7 @@ pub use Rattle.std.specs.List.{AllByRecursion, list_any}
 pub use Rattle.std.specs.List.Sorted.{IsSortedBy}
 pub use Rattle.std.specs.Ordering.{ordering_reverse}
 pub use Rattle.std.specs.Prelude.{IsTrue, if◌then◌else◌, IfSome}
-pub use Rattle.std.proofs.Common.{◌≡◌, true, ℕ, ℤ, List, [], ◌∷◌, ◌∙◌, map, refl, sym, Result, arith, suc, ◌+◌, ◌<◌, ◌≤◌, Bool, false, length, filter, find, inl, inr, get_or, ap, subst, Ordering, Less, Equal, Greater, is_eq, is_lt, IsPermutation, true≢false, ◌↔◌, not, ◌&&◌, ◌++◌, is_le, is_gt, int_cmp, Some, Vec, Global, Ok, Err, ap₂, Option, ◌≢◌, zero, take, drop, None, rules}
+pub use Rattle.std.proofs.Common.{◌≡◌, true, ℕ, ℤ, List, [], ◌∷◌, ◌∙◌, map, refl, sym, Result, arith, suc, ◌+◌, ◌<◌, ◌≤◌, Bool, false, length, filter, find, inl, inr, get_or, ap, subst, Ordering, Less, Equal, Greater, is_eq, is_lt, IsPermutation, true≢false, ◌↔◌, not, ◌++◌, is_le, is_gt, int_cmp, Some, Vec, Global, Ok, Err, ap₂, Option, ◌≢◌, zero, take, drop, None, rules}
 pub use Rattle.std.proofs.lemmas.Bool.{cases_Bool, and_parts, not-true, false_from_ne_true}
 pub use Rattle.std.proofs.lemmas.Int.{ints}
 pub use Rattle.std.proofs.lemmas.List.{map-append}
@@ -36,7 +36,6 @@ pub use Rattle.table_words.specs.Schema.{schema_with}
 pub use Rattle.table_words.specs.Steps.{IsReady}
 pub use Rattle.table_words.specs.Typed.{AreTyped, tables_in}
 pub use Rattle.table_words.specs.declared.error.TableFault.{TableFault}
-pub use Rattle.table_words.specs.declared.error.TableFault.TheVariants.{Foreign}
 pub use Rattle.table_words.proofs.CallLemmas.{inside_then, on_ok_if, if_ok, if_err}
 pub use Rattle.table_words.proofs.CellLemmas.{and_true, both_typed, shown_typed}
 pub use Rattle.table_words.proofs.KeyLemmas.{IsSame}

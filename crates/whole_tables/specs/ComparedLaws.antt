@@ -3,23 +3,7 @@ use Rattle.std.specs.Prelude.{bytes_eq, nat_eq}
 use Rattle.std.specs.Ordering.{nat_cmp}
 use Rattle.std.proofs.Common.{refl}
 use Rattle.std.proofs.lemmas.Cmp.{nat_cmp_total}
-use Rattle.table_words.specs.Typed.{same_lot_id}
-use Rattle.tables.specs.Meta.{meta}
-use Rattle.tables.specs.Items.{items}
-use Rattle.tables.specs.Least.{least}
-use Rattle.tables.specs.Bins.{bins}
-use Rattle.tables.specs.Lots.{lots}
-use Rattle.tables.specs.Recalls.{recalls}
-use Rattle.tables.specs.Stock.{stock}
-use Rattle.tables.specs.Orders.{orders}
-use Rattle.tables.specs.Urgents.{urgents}
-use Rattle.tables.specs.Lines.{lines}
-use Rattle.tables.specs.Staged.{staged}
-use Rattle.tables.specs.Reserved.{reserved}
-use Rattle.tables.specs.Shipments.{shipments}
-use Rattle.tables.specs.Shiplines.{shiplines}
-use Rattle.tables.specs.Cards.{cards}
-use Rattle.tables.specs.Repeats.{repeats}
+use Rattle.whole_tables.specs.Words.{same_lot_id, meta, items, least, bins, lots, recalls, stock, orders, urgents, lines, staged, reserved, shipments, shiplines, cards, repeats}
 use Rattle.whole_tables.specs.declared.key.RowKey.TheVariants as row
 use Rattle.whole_tables.specs.declared.key.TableName.TheVariants as table
 use Rattle.whole_tables.specs.Same.{IsCompared, text_cmp, lot_cmp, pair_cmp, one_cmp}

@@ -1,9 +1,6 @@
 -- Rows of the books that differ, and tables that are alike.
 use Rattle.std.specs.Prelude.{◌≡◌, ◌≢◌, Option}
-use Rattle.sqlite.specs.Effect.{Database}
-use Rattle.commands.specs.Tables.{Tables}
-use Rattle.table_words.specs.Typed.{Rule, tables_in, Keeps}
-use Rattle.keyed_rows.specs.Described.{Described, rule_of}
+use Rattle.whole_tables.specs.Words.{Database, Tables, Rule, tables_in, Keeps, Described, rule_of}
 use Rattle.whole_tables.specs.declared.key.RowKey.{RowKey}
 use Rattle.whole_tables.specs.declared.key.RowKey.TheVariants.{Meta, Item, Least, Bin, Lot, Recall, Stock, Order, Urgent, Line, Staged, Reserved, Shipment, Shipline, Card, Repeat}
 use Rattle.whole_tables.specs.declared.key.TableName.{TableName}

@@ -1,24 +1,7 @@
 -- The tables of the books as one family: which table, and what it is.
 use Rattle.std.specs.Prelude.{◌≡◌, Option}
 use Rattle.std.proofs.Common.{refl}
-use Rattle.commands.specs.Tables.{Tables}
-use Rattle.keyed_rows.specs.Described.{Described, IsLawful}
-use Rattle.tables.specs.Meta.{meta, meta_laws}
-use Rattle.tables.specs.Items.{items, items_laws}
-use Rattle.tables.specs.Least.{least, least_laws}
-use Rattle.tables.specs.Bins.{bins, bins_laws}
-use Rattle.tables.specs.Lots.{lots, lots_laws}
-use Rattle.tables.specs.Recalls.{recalls, recalls_laws}
-use Rattle.tables.specs.Stock.{stock, stock_laws}
-use Rattle.tables.specs.Orders.{orders, orders_laws}
-use Rattle.tables.specs.Urgents.{urgents, urgents_laws}
-use Rattle.tables.specs.Lines.{lines, lines_laws}
-use Rattle.tables.specs.Staged.{staged, staged_laws}
-use Rattle.tables.specs.Reserved.{reserved, reserved_laws}
-use Rattle.tables.specs.Shipments.{shipments, shipments_laws}
-use Rattle.tables.specs.Shiplines.{shiplines, shiplines_laws}
-use Rattle.tables.specs.Cards.{cards, cards_laws}
-use Rattle.tables.specs.Repeats.{repeats, repeats_laws}
+use Rattle.whole_tables.specs.Words.{Tables, Described, IsLawful, meta, meta_laws, items, items_laws, least, least_laws, bins, bins_laws, lots, lots_laws, recalls, recalls_laws, stock, stock_laws, orders, orders_laws, urgents, urgents_laws, lines, lines_laws, staged, staged_laws, reserved, reserved_laws, shipments, shipments_laws, shiplines, shiplines_laws, cards, cards_laws, repeats, repeats_laws}
 use Rattle.whole_tables.specs.declared.key.TableName.{TableName}
 use Rattle.whole_tables.specs.declared.key.TableName.TheVariants.{Meta, Items, Least, Bins, Lots, Recalls, Stock, Orders, Urgents, Lines, Staged, Reserved, Shipments, Shiplines, Cards, Repeats}
 

@@ -3,25 +3,15 @@ use Rattle.std.specs.Prelude.{◌≡◌, ℕ, ℤ, Bool, true, false, List, [], 
 use Rattle.std.specs.List.{AllByRecursion}
 use Rattle.sqlite.specs.declared.types.Value.TheVariants.{Int}
 use Rattle.sqlite.specs.Collation.TheVariants.{Binary}
-use Rattle.sqlite.specs.Order.{Row}
+use Rattle.whole_tables.specs.Words.{Row, Trees, Schema, Select, IsPlain, understood, reads_listing, command_of, typed, schema_with, scan, alone, by_rowid, Described}
 use Rattle.sqlite.specs.Term.{Term, col, op2}
-use Rattle.sqlite.specs.Tree.{Trees}
-use Rattle.sqlite.specs.Schema.{Schema}
-use Rattle.sqlite.specs.Command.TheVariants.{Select}
-use Rattle.sqlite.specs.Given.{IsPlain}
-use Rattle.sqlite.specs.Listing.{understood, reads_listing}
 use Rattle.sqlite.specs.State.{State, HasCleanDisk, Survives, IsUnchanged}
-use Rattle.sqlite.proofs.Callers.{command_of}
 use Rattle.sqlite_sql.specs.declared.ops.BinaryOp.TheVariants.{Compare}
 use Rattle.sqlite_sql.specs.declared.ops.CompareOp.TheVariants.{Le, Gt}
-use Rattle.table_words.specs.Cells.{typed}
-use Rattle.table_words.specs.Schema.{schema_with}
 use Rattle.table_words.specs.Steps.{IsReady}
 use Rattle.table_words.specs.declared.error.TableFault.{TableFault}
 use Rattle.table_words.specs.declared.error.TableFault.TheVariants.{Foreign}
-use Rattle.table_words.proofs.Plans.{scan, alone, by_rowid}
 use Rattle.table_words.proofs.ScanLemmas.{passes}
-use Rattle.keyed_rows.specs.Described.{Described}
 use Rattle.whole_tables.specs.declared.halves.Half.{Half}
 use Rattle.whole_tables.specs.declared.halves.Half.TheVariants.{Lower, Upper}
 

@@ -6,8 +6,7 @@ use Rattle.std.specs.Cmp.{IsTotalOrder}
 use Rattle.std.proofs.lemmas.Bool.Decides.{nat_tests}
 use Rattle.std.proofs.lemmas.Cmp.{nat_list_cmp_total, on_total, then_total}
 use Rattle.std.proofs.lemmas.Map.Text.{is_eq-slice_cmp}
-use Rattle.values.specs.declared.lot.LotId.{LotId}
-use Rattle.table_words.specs.Typed.{same_lot_id}
+use Rattle.whole_tables.specs.Words.{LotId, same_lot_id}
 use Rattle.whole_tables.specs.Same.{one_cmp, text_cmp, lot_cmp, pair_cmp}
 
 -- both parts are equal

@@ -2,22 +2,7 @@
 use Rattle.std.proofs.Common.{refl, ℕ, List}
 use Rattle.sqlite.specs.Listing.{understood}
 use Rattle.sqlite_tied.specs.Compute.{everything}
-use Rattle.tables.specs.Meta.{meta}
-use Rattle.tables.specs.Items.{items, all_items, all_items_laws}
-use Rattle.tables.specs.Least.{least}
-use Rattle.tables.specs.Bins.{bins, all_bins, all_bins_laws}
-use Rattle.tables.specs.Lots.{lots, all_lots, all_lots_laws}
-use Rattle.tables.specs.Recalls.{recalls}
-use Rattle.tables.specs.Stock.{stock}
-use Rattle.tables.specs.Orders.{orders}
-use Rattle.tables.specs.Urgents.{urgents}
-use Rattle.tables.specs.Lines.{lines}
-use Rattle.tables.specs.Staged.{staged, all_staged, all_staged_laws}
-use Rattle.tables.specs.Reserved.{reserved}
-use Rattle.tables.specs.Shipments.{shipments}
-use Rattle.tables.specs.Shiplines.{shiplines}
-use Rattle.tables.specs.Cards.{cards}
-use Rattle.tables.specs.Repeats.{repeats}
+use Rattle.whole_tables.specs.Words.{meta, items, all_items, all_items_laws, least, bins, all_bins, all_bins_laws, lots, all_lots, all_lots_laws, recalls, stock, orders, urgents, lines, staged, all_staged, all_staged_laws, reserved, shipments, shiplines, cards, repeats}
 use Rattle.whole_tables.specs.declared.texts.TheConstants.{ALL_META, ALL_LEAST, ALL_RECALLS, ALL_STOCK, ALL_ORDERS, ALL_URGENTS, ALL_LINES, ALL_RESERVED, ALL_SHIPMENTS, ALL_SHIPLINES, ALL_CARDS, ALL_REPEATS, LOWER_STOCK, UPPER_STOCK, LOWER_LINES, UPPER_LINES, LOWER_RESERVED, UPPER_RESERVED, LOWER_SHIPLINES, UPPER_SHIPLINES, LOWER_CARDS, UPPER_CARDS, LOWER_REPEATS, UPPER_REPEATS}
 use Rattle.whole_tables.specs.Whole.{WholeIs}
 use Rattle.whole_tables.specs.Halves.{HalvesAre}

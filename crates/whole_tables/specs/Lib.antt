@@ -1,3 +1,4 @@
+mod Words
 pub mod Whole
 pub mod Halves
 pub mod Laws

@@ -5,11 +5,7 @@ use Rattle.std.specs.declared.cmp.Ordering.TheVariants.{Less, Equal}
 use Rattle.std.specs.Ordering.{nat_cmp, ordering_then, is_eq, is_gt}
 use Rattle.std.specs.Cmp.{IsTotalOrder}
 use Rattle.std.specs.Cmp.Lexicographic.{slice_cmp}
-use Rattle.sqlite.specs.Effect.{Database}
-use Rattle.values.specs.declared.lot.LotId.{LotId}
-use Rattle.commands.specs.Tables.{Tables}
-use Rattle.table_words.specs.Found.{no_two}
-use Rattle.keyed_rows.specs.Described.{Described, rule_of}
+use Rattle.whole_tables.specs.Words.{Database, LotId, Tables, no_two, Described, rule_of}
 use Rattle.whole_tables.specs.declared.key.RowKey.{RowKey}
 use Rattle.whole_tables.specs.declared.key.TableName.{TableName}
 use Rattle.whole_tables.specs.Differing.{RowDiffers, rule_called, SameTable, SameCalled}

@@ -1,18 +1,6 @@
 -- All rows of a table.
 use Rattle.std.specs.Prelude.{◌≡◌, ℕ, true, false, List, [], map}
-use Rattle.sqlite.specs.Order.{Row}
-use Rattle.sqlite.specs.Tree.{Trees}
-use Rattle.sqlite.specs.Schema.{Schema}
-use Rattle.sqlite.specs.Command.TheVariants.{Select}
-use Rattle.sqlite.specs.Given.{IsPlain}
-use Rattle.sqlite.specs.Listing.{understood, reads_listing}
-use Rattle.sqlite.proofs.Callers.{command_of}
-use Rattle.commands.specs.Tables.{Tables}
-use Rattle.table_words.specs.Found.{AreRows}
-use Rattle.table_words.specs.Cells.{typed}
-use Rattle.table_words.specs.Schema.{schema_with}
-use Rattle.table_words.proofs.Plans.{scan, alone, by_rowid}
-use Rattle.keyed_rows.specs.Described.{Described}
+use Rattle.whole_tables.specs.Words.{Row, Trees, Schema, Select, IsPlain, understood, reads_listing, command_of, Tables, AreRows, typed, schema_with, scan, alone, by_rowid, Described}
 
 -- the rows are all that the table has, each once
 abbrev pub AreAll : {X K : Type 0} → Described X K → Tables → List X → Type 0

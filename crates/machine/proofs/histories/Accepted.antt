@@ -1,5 +1,5 @@
 -- What holds where a command is accepted: the conditions of its refusals, turned.
-use Rattle.machine.proofs.Words.{◌≡◌, ℕ, ◌+◌, ◌≤◌, true, false, not, List, [], ◌∷◌, refl, ◌==◌, nat_le, nat_lt, if◌then◌else◌, Some, None, length, ℤ, int_le, list_any, same_text, LotId, ITEMS_MAX, BINS_MAX, UNITS_MAX, OPEN_MAX, ACTS_MAX, NewItem, NewBin, Receipt, Movement, Recount, Adjustment, NewOrder, Picking, NewLeast, Command, Item, Bin, Receive, Move, Count, Adjust, Order, Cancel, Pick, Unpick, Ship, Hold, Release, Recall, OpenDay, Least, Urgent, Act, items, has_item, bins, has_bin, is_store_bin, lot_known, has_lot, is_held, is_recalled, is_expired, today, least_days, has_order, has_line, in_bin, staged_of_lot, staged_for_order, units_in_house, is_open, reserved, open_units, Judgement, first_refusal, verdict, all_judged, expires_otherwise, is_past, is_below, names_item_twice, taken_off, put_on}
+use Rattle.machine.proofs.Words.{◌≡◌, ℕ, ◌+◌, ◌≤◌, true, false, not, List, [], ◌∷◌, refl, ◌==◌, nat_le, nat_lt, if◌then◌else◌, Some, None, length, ℤ, int_le, list_any, same_text, LotId, ITEMS_MAX, BINS_MAX, UNITS_MAX, OPEN_MAX, ACTS_MAX, NewItem, NewBin, Receipt, Movement, Recount, Adjustment, NewOrder, Picking, NewLeast, Command, Item, Bin, Receive, Move, Count, Adjust, Order, Cancel, Pick, Unpick, Ship, Hold, OpenDay, Least, Urgent, Act, items, has_item, bins, has_bin, is_store_bin, lot_known, has_lot, is_held, is_recalled, is_expired, today, least_days, has_order, has_line, in_bin, staged_of_lot, staged_for_order, units_in_house, is_open, reserved, open_units, Judgement, first_refusal, verdict, all_judged, expires_otherwise, is_past, is_below, names_item_twice, taken_off, put_on}
 use Rattle.machine.proofs.Tests.{not_false, or_none, at_most, is_zero}
 
 -- no condition of the list holds
@@ -214,24 +214,6 @@ module _ (first : ℤ) (acts : List Act) where
   hold_accepted l ok =
       let h = passed first acts (Hold l) ok in
       record { item = not_false _ h.1.0; lot = not_false _ h.1.1.0; not_recalled = h.1.1.1.0; not_held = h.1.1.1.1.0 }
-
-  pub record ReleaseAccepted (l : LotId) : Type 0 where
-    pub item : has_item acts l.gtin ≡ true
-    pub lot : has_lot acts l ≡ true
-    pub not_recalled : is_recalled acts l ≡ false
-    pub held : is_held acts l ≡ true
-
-  pub release_accepted : (l : LotId) → verdict first acts (Release l) ≡ None → ReleaseAccepted l
-  release_accepted l ok =
-      let h = passed first acts (Release l) ok in
-      record { item = not_false _ h.1.0; lot = not_false _ h.1.1.0; not_recalled = h.1.1.1.0; held = not_false _ h.1.1.1.1.0 }
-
-  pub record RecallAccepted (l : LotId) : Type 0 where
-    pub item : has_item acts l.gtin ≡ true
-    pub not_recalled : is_recalled acts l ≡ false
-
-  pub recall_accepted : (l : LotId) → verdict first acts (Recall l) ≡ None → RecallAccepted l
-  recall_accepted l ok = let h = passed first acts (Recall l) ok in record { item = not_false _ h.1.0; not_recalled = h.1.1.0 }
 
   pub day_accepted : (day : ℤ) → verdict first acts (OpenDay day) ≡ None → int_le day (today first acts) ≡ false
   day_accepted day ok = let h = passed first acts (OpenDay day) ok in h.1.0

@@ -1,5 +1,5 @@
 -- After an order is shipped: its stages are empty, what was staged is in the shipment, and no plan has changed.
-use Rattle.machine.proofs.Words.{◌≡◌, ℕ, ◌+◌, ◌-◌, Bool, true, false, ◌&&◌, List, [], ◌∷◌, ◌++◌, refl, ap, sym, ◌∙◌, arith, ◌==◌, if◌then◌else◌, filter, map, flat_map, reverse, ℤ, list_any, same_text, LotId, Key, OrderLine, Ship, Demand, plan_rows, Act, next_number, Place, Supplier, InBin, Stage, Shipped, WriteOff, Posting, balance, in_house, is_bin, is_stage, is_shipment, is_lot, of_item, KnownLot, Placed, lots, orders, lot_known, order_named, is_cancelled, shipments_so_far, cleared, shipped_off, postings, is_urgent, is_normal, Booking, booking_of, lines_of_item, in_bin, in_store, staged_of_lot, item_postings, shipped_of, staged, shipped, need, demand_of, demands, supplies, shippable_lots, plan, reserved, reserved_of, lot_units_in_house, IsHistory}
+use Rattle.machine.proofs.Words.{◌≡◌, ℕ, ◌+◌, ◌-◌, Bool, true, false, ◌&&◌, List, [], ◌∷◌, ◌++◌, refl, ap, sym, ◌∙◌, arith, ◌==◌, if◌then◌else◌, filter, map, flat_map, reverse, ℤ, list_any, same_text, LotId, Key, OrderLine, Ship, Demand, plan_rows, Act, next_number, Place, Supplier, Stage, Shipped, WriteOff, Posting, balance, in_house, is_bin, is_stage, is_shipment, is_lot, of_item, KnownLot, Placed, lots, orders, lot_known, order_named, is_cancelled, shipments_so_far, cleared, shipped_off, postings, is_urgent, is_normal, Booking, booking_of, lines_of_item, in_bin, in_store, staged_of_lot, item_postings, shipped_of, staged, shipped, need, demand_of, demands, supplies, shippable_lots, plan, reserved, reserved_of, lot_units_in_house, IsHistory}
 use Rattle.machine.proofs.Mapping.{map_reversed, map_appended}
 use Rattle.machine.proofs.Tests.{and_both, or_false, same_text_is, same_text_refl}
 use Rattle.machine.proofs.Apart.{any_found}
@@ -81,10 +81,7 @@ module _ (first : ℤ) (acts : List Act) (key : Key) (o : List ℕ) (next : IsHi
       let two = and_both (same_text o u) (of_item g l) e in
       let own : same_text u o ≡ true = ap (λ (x : List ℕ). same_text x o) (sym (same_text_is o u two.0)) ∙ same_text_refl o in
       stage_after u l ∙ ap (λ b. if b then 0 else staged_of_lot first acts u l) own
-  empty_cells g (InBin b) l e = let f : false ≡ true = e in cc
-  empty_cells g Supplier l e = let f : false ≡ true = e in cc
-  empty_cells g WriteOff l e = let f : false ≡ true = e in cc
-  empty_cells g (Shipped n u) l e = let f : false ≡ true = e in cc
+  empty_cells g _ l e = let f : false ≡ true = e in cc
 
   -- nothing of the item is staged for the order any more
   pub item_unstaged : (g : List ℕ) → balance (is_stage o) (of_item g) (postings first after) ≡ 0

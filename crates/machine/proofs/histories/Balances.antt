@@ -1,5 +1,5 @@
 -- A posting changes each balance by its quantity, and no balance of places that it does not name.
-use Rattle.machine.proofs.Words.{◌≡◌, ℕ, ◌+◌, ◌-◌, ◌≤◌, Bool, true, false, ◌&&◌, List, [], ◌∷◌, ◌++◌, refl, arith, ◌==◌, if◌then◌else◌, filter, eqb-true, LotId, Place, Posting, balance, units_in, units_out, of_item, is_bin, is_stage, is_lot, posting}
+use Rattle.machine.proofs.Words.{◌≡◌, ℕ, ◌+◌, ◌-◌, ◌≤◌, Bool, true, false, ◌&&◌, List, [], ◌∷◌, ◌++◌, refl, arith, ◌==◌, if◌then◌else◌, filter, eqb-true, LotId, Place, Posting, balance, units_in, units_out, of_item, posting}
 use Rattle.machine.proofs.histories.Cells.{Cells, into, out_of, holds, Inner, CanTake, Legal, never_overdrawn, taken_from}
 
 -- once for each end that lies in the set
@@ -19,30 +19,9 @@ holds_posted w i n l from to q ps can legal =
     none_moved q false true h z = omega arith
     none_moved q false false h z = refl
 
--- of a lot in a bin
-pub bin_balance-posted : (b : List ℕ) (m : LotId) (n : ℕ) (l : LotId) (from to : Place) (q : ℕ) (ps : List Posting) → CanTake from l q ps → Legal ps
-    → balance (is_bin b) (is_lot m) (posting n l from to q ++ ps) + (if is_bin b from && is_lot m l then q else 0)
-    ≡ balance (is_bin b) (is_lot m) ps + (if is_bin b to && is_lot m l then q else 0)
-bin_balance-posted b m n l from to q ps can legal = holds_posted (λ p k. is_bin b p && is_lot m k) (record { supplier = λ k. refl; write_off = λ k. refl }) n l from to q ps can legal
-
--- and on a stage
-pub stage_balance-posted : (o : List ℕ) (m : LotId) (n : ℕ) (l : LotId) (from to : Place) (q : ℕ) (ps : List Posting) → CanTake from l q ps → Legal ps
-    → balance (is_stage o) (is_lot m) (posting n l from to q ++ ps) + (if is_stage o from && is_lot m l then q else 0)
-    ≡ balance (is_stage o) (is_lot m) ps + (if is_stage o to && is_lot m l then q else 0)
-stage_balance-posted o m n l from to q ps can legal = holds_posted (λ p k. is_stage o p && is_lot m k) (record { supplier = λ k. refl; write_off = λ k. refl }) n l from to q ps can legal
-
 none_there : (a b : Bool) (q n : ℕ) → a ≡ false → (if a && b then q else 0) + n ≡ n
 none_there true b q n e = let f : true ≡ false = e in cc
 none_there false b q n e = omega arith
-
--- of any postings
-pub balance-elsewhere : (places : Place → Bool) (lots : LotId → Bool) (n : ℕ) (l : LotId) (from to : Place) (q : ℕ) (ps : List Posting)
-    → places from ≡ false → places to ≡ false → balance places lots (posting n l from to q ++ ps) ≡ balance places lots ps
-balance-elsewhere places lots n l from to q ps e f =
-    elim (q == 0) as (λ b. balance places lots ((if b then [] else record { act = n; lot = l; from = from; to = to; qty = q } ∷ []) ++ ps) ≡ balance places lots ps) [
-      | true ↦ refl
-      | false ↦ (λ i. none_there (places to) (lots l) q (units_in places lots ps) f i - none_there (places from) (lots l) q (units_out places lots ps) e i)
-    ]
 
 -- and by an item's postings alone
 pub balance-elsewhere_of : (g : List ℕ) (places : Place → Bool) (lots : LotId → Bool) (n : ℕ) (l : LotId) (from to : Place) (q : ℕ) (ps : List Posting)

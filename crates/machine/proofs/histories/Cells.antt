@@ -80,19 +80,13 @@ pub bin_part : (w : Cells) (b : List ℕ) (l : LotId) → w (InBin b) l ≡ true
 bin_part w b l h (InBin c) m e =
     let t = and_both (same_text b c) (is_lot l m) e in
     subst (λ (x : List ℕ). w (InBin x) m ≡ true) (same_text_is b c t.0) (subst (λ (x : LotId). w (InBin b) x ≡ true) (is_lot_is l m t.1) h)
-bin_part w b l h Supplier m e = let f : false ≡ true = e in cc
-bin_part w b l h WriteOff m e = let f : false ≡ true = e in cc
-bin_part w b l h (Stage o) m e = let f : false ≡ true = e in cc
-bin_part w b l h (Shipped n o) m e = let f : false ≡ true = e in cc
+bin_part w b l h _ m e = let f : false ≡ true = e in cc
 
 pub stage_part : (w : Cells) (o : List ℕ) (l : LotId) → w (Stage o) l ≡ true → IsPart (stage_cell o l) w
 stage_part w o l h (Stage q) m e =
     let t = and_both (same_text o q) (is_lot l m) e in
     subst (λ (x : List ℕ). w (Stage x) m ≡ true) (same_text_is o q t.0) (subst (λ (x : LotId). w (Stage o) x ≡ true) (is_lot_is l m t.1) h)
-stage_part w o l h Supplier m e = let f : false ≡ true = e in cc
-stage_part w o l h WriteOff m e = let f : false ≡ true = e in cc
-stage_part w o l h (InBin b) m e = let f : false ≡ true = e in cc
-stage_part w o l h (Shipped n q) m e = let f : false ≡ true = e in cc
+stage_part w o l h _ m e = let f : false ≡ true = e in cc
 
 pub inner_bin : (b : List ℕ) (l : LotId) → Inner (bin_cell b l)
 inner_bin b l = record { supplier = λ m. refl; write_off = λ m. refl }

@@ -1,5 +1,5 @@
 -- On a history no more of a line is staged and shipped than is ordered, and a closed order has nothing staged or reserved.
-use Rattle.machine.proofs.Words.{◌≡◌, ℕ, ◌+◌, ◌-◌, ◌≤◌, Bool, true, false, ◌&&◌, not, List, [], ◌∷◌, ◌++◌, refl, ap, sym, ◌∙◌, arith, ◌==◌, ◌||◌, if◌then◌else◌, find, Option, Some, None, is_some, ℤ, list_all, eqb-true, same_text, LotId, Key, OrderLine, Command, Item, Bin, Receive, Move, Count, Adjust, Order, Cancel, Pick, Unpick, Ship, Hold, Release, Recall, OpenDay, Least, Urgent, Open, Done, Cancelled, Act, next_number, Place, Supplier, InBin, Stage, Shipped, WriteOff, Posting, balance, is_stage, is_shipped_to, is_lot, any_lot, of_item, Placed, orders, order_named, has_order, lines_of, lines_placed, is_cancelled, posting, posted, postings, item_postings, staged, shipped, shipped_of, staged_of_lot, staged_for_order, is_open, is_open_state, is_shipped_in_full, reserved, verdict, names_item_twice, IsHistory, ClosedOrdersAreEmpty}
+use Rattle.machine.proofs.Words.{◌≡◌, ℕ, ◌+◌, ◌-◌, ◌≤◌, Bool, true, false, ◌&&◌, not, List, [], ◌∷◌, ◌++◌, refl, ap, sym, ◌∙◌, arith, ◌==◌, ◌||◌, if◌then◌else◌, find, Option, Some, None, is_some, ℤ, list_all, eqb-true, same_text, LotId, Key, OrderLine, Command, Order, Cancel, Pick, Urgent, Open, Done, Cancelled, Act, next_number, Place, Supplier, InBin, Stage, Shipped, WriteOff, Posting, balance, is_stage, is_shipped_to, is_lot, any_lot, of_item, Placed, orders, order_named, has_order, lines_of, lines_placed, is_cancelled, posting, posted, postings, item_postings, staged, shipped, shipped_of, staged_of_lot, staged_for_order, is_open, is_open_state, is_shipped_in_full, reserved, verdict, names_item_twice, IsHistory, ClosedOrdersAreEmpty}
 use Rattle.machine.proofs.Tests.{same_text_is, is_lot_item, and_both}
 use Rattle.machine.proofs.histories.Accepted.{order_accepted, urgent_accepted, cancel_accepted, pick_accepted}
 use Rattle.machine.proofs.histories.Cells.{Cells, holds, Inner, Legal, IsPart, without, stage_cell, inner_stage, holds_split}
@@ -57,21 +57,7 @@ module _ (first : ℤ) (key : Key) (before : List Act) (o : List ℕ) (h : is_ca
         | false ↦ λ t.
             omega (arith, into_posting (stages o) (next_number before) p.lot (InBin p.bin) (Stage p.order) p.qty old, ap (λ b. if b && any_lot p.lot then p.qty else 0) t, h e)
       ] refl
-  cancelled_after (Receive r) ok e = still_none (Receive r) refl e
-  cancelled_after (Move m) ok e = still_none (Move m) refl e
-  cancelled_after (Count c) ok e = still_none (Count c) refl e
-  cancelled_after (Adjust a) ok e = still_none (Adjust a) refl e
-  cancelled_after (Unpick p) ok e = still_none (Unpick p) refl e
-  cancelled_after (Ship u) ok e = still_none (Ship u) refl e
-  cancelled_after (Hold l) ok e = still_none (Hold l) refl e
-  cancelled_after (Recall l) ok e = still_none (Recall l) refl e
-  cancelled_after (OpenDay d) ok e = still_none (OpenDay d) refl e
-  cancelled_after (Least l) ok e = still_none (Least l) refl e
-  cancelled_after (Item i) ok e = h e
-  cancelled_after (Bin b) ok e = h e
-  cancelled_after (Order n) ok e = h e
-  cancelled_after (Urgent n) ok e = h e
-  cancelled_after (Release l) ok e = h e
+  cancelled_after c ok e = still_none c refl e
 
 pub cancelled_is_unstaged : (first : ℤ) (acts : List Act) → IsHistory first acts → (o : List ℕ) → is_cancelled acts o ≡ true → staged_for_order first acts o ≡ 0
 cancelled_is_unstaged first [] h o e = refl
@@ -129,9 +115,7 @@ rest_of_served o g = λ i p l. at_place p l i
     at_place : (p : Place) (l : LotId) → without (served o g) (item_stages o g) p l ≡ item_shipments o g p l
     at_place (Stage u) l = gone (same_text o u) (of_item g l)
     at_place (Shipped n u) l = kept (same_text o u && of_item g l)
-    at_place (InBin b) l = refl
-    at_place Supplier l = refl
-    at_place WriteOff l = refl
+    at_place _ l = refl
 
 -- what is served of a line is what is staged and what is shipped of it
 pub served_is : (first : ℤ) (acts : List Act) → Legal (postings first acts) → (o g : List ℕ)
@@ -234,22 +218,7 @@ module _ (first : ℤ) (key : Key) (before : List Act) (history : IsHistory firs
     where
       within : (a b c : ℕ) → a ≤ b → b ≤ c → a ≤ c
       within a b c e f = omega arith
-  served_after (Receive r) ok = served_other (Receive r) refl
-  served_after (Move m) ok = served_other (Move m) refl
-  served_after (Count c) ok = served_other (Count c) refl
-  served_after (Adjust a) ok = served_other (Adjust a) refl
-  served_after (Unpick p) ok = served_other (Unpick p) refl
-  served_after (Ship u) ok = served_other (Ship u) refl
-  served_after (Hold l) ok = served_other (Hold l) refl
-  served_after (Recall l) ok = served_other (Recall l) refl
-  served_after (OpenDay d) ok = served_other (OpenDay d) refl
-  served_after (Least l) ok = served_other (Least l) refl
-  served_after (Item i) ok = h
-  served_after (Bin b) ok = h
-  served_after (Order n) ok = h
-  served_after (Urgent n) ok = h
-  served_after (Cancel u) ok = h
-  served_after (Release l) ok = h
+  served_after c ok = served_other c refl
 
 -- on a history no more of an item is staged and shipped for an order than it asks for
 pub served_within_ordered : (first : ℤ) (acts : List Act) → IsHistory first acts → (o g : List ℕ) → holds (served o g) (postings first acts) ≤ ordered_of acts o g

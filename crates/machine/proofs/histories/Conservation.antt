@@ -1,7 +1,8 @@
 -- What came in of a lot is in bins, on stages or in shipments, or was written off.
 use Prim.Native.Nat.{zero}
-use Rattle.machine.proofs.Words.{◌≡◌, ℕ, suc, ◌+◌, ◌-◌, Bool, true, false, ◌&&◌, List, [], ◌∷◌, ◌++◌, refl, ap, arith, ◌==◌, if◌then◌else◌, flat_map, ℤ, pos, negsuc, neg_ℤ, unsigned_abs, LotId, Command, Item, Bin, Receive, Move, Count, Adjust, Order, Cancel, Pick, Unpick, Ship, Hold, Release, Recall, OpenDay, Least, Urgent, CardKind, WriteOn, WrittenOff, CardRow, Act, next_number, Place, Supplier, InBin, Stage, Shipped, WriteOff, Posting, balance, is_bin, is_stage, is_lot, KnownLot, Placed, RETURNS, lots, orders, shipments_so_far, posting, written, cleared, shipped_off, lot_returned, returned, made_unshippable, posted, postings, postings_of, cards, card_lines, card_total, Conserved}
+use Rattle.machine.proofs.Words.{◌≡◌, ℕ, suc, ◌+◌, Bool, true, false, ◌&&◌, List, [], ◌∷◌, ◌++◌, refl, ap, subst, arith, if◌then◌else◌, flat_map, ℤ, pos, neg_ℤ, unsigned_abs, LotId, Command, CardKind, WriteOn, WrittenOff, CardRow, Act, Place, Supplier, InBin, Stage, Shipped, WriteOff, Posting, is_lot, posted, postings, postings_of, cards, card_lines, card_total, Conserved}
 use Rattle.commands.specs.declared.rows.CardKind.TheVariants.{Receipt}
+use Rattle.machine.proofs.histories.ActFacts.{Entry, Nothing, One, Corrected, ShippedOff, Returned, entry_of, entry_posted, is_pick, IsStep, HasStep, step_of, Each, each_of_entry, Shown, all_returned}
 use Rattle.machine.proofs.histories.Cells.{into, out_of, into-append, out_of-append, never_overdrawn}
 use Rattle.machine.proofs.histories.LegalHistories.{legal_history}
 use Rattle.machine.proofs.histories.KnownSums.{of_lot, any_inner, all_held}
@@ -19,56 +20,23 @@ IsWay (Stage o) (Shipped n u) = Unit {0}
 IsWay _ _ = ⊥
 
 abbrev pub AllWays : List Posting → Type 0
-AllWays [] = Unit {0}
-AllWays (p ∷ ps) = IsWay p.from p.to × AllWays ps
+AllWays = Each (λ p. IsWay p.from p.to)
 
-ways-append : (ps qs : List Posting) → AllWays ps → AllWays qs → AllWays (ps ++ qs)
-ways-append [] qs h k = k
-ways-append (p ∷ ps) qs h k = (h.0, ways-append ps qs h.1 k)
-
-way_posting : (n : ℕ) (l : LotId) (from to : Place) (q : ℕ) → IsWay from to → AllWays (posting n l from to q)
-way_posting n l from to q h = elim (q == 0) as (λ b. AllWays (if b then [] else record { act = n; lot = l; from = from; to = to; qty = q } ∷ [])) [ true ↦ tt | false ↦ (h, tt) ]
-
-module _ (n : ℕ) (ps : List Posting) where
-  ways_shipped : (s : ℕ) (o : List ℕ) (ks : List KnownLot) → AllWays (shipped_off n s o ks ps)
-  ways_shipped s o [] = tt
-  ways_shipped s o (k ∷ ks) =
-      ways-append (cleared n ps (Shipped s o) o k.lot) (shipped_off n s o ks ps) (way_posting n k.lot (Stage o) (Shipped s o) (balance (is_stage o) (is_lot k.lot) ps) tt) (ways_shipped s o ks)
-
-  ways_lot_returned : (k : KnownLot) (os : List Placed) → AllWays (lot_returned n os ps k)
-  ways_lot_returned k [] = tt
-  ways_lot_returned k (p ∷ os) =
-      ways-append (cleared n ps (InBin RETURNS) p.order k.lot) (lot_returned n os ps k) (way_posting n k.lot (Stage p.order) (InBin RETURNS) (balance (is_stage p.order) (is_lot k.lot) ps) tt) (ways_lot_returned k os)
-
-  ways_returned : (os : List Placed) (ks : List KnownLot) → AllWays (returned n ks os ps)
-  ways_returned os [] = tt
-  ways_returned os (k ∷ ks) = ways-append (lot_returned n os ps k) (returned n ks os ps) (ways_lot_returned k os) (ways_returned os ks)
-
-  ways_written : (l : LotId) (b : List ℕ) (z : ℤ) → AllWays (written n l b z)
-  ways_written l b (pos k) = way_posting n l WriteOff (InBin b) k tt
-  ways_written l b (negsuc k) = way_posting n l (InBin b) WriteOff (suc k) tt
+way_of : (picks : Bool) (from to : Place) → IsStep picks from to → IsWay from to
+way_of picks (InBin b) (Stage o) h = tt
+way_of picks (Stage o) (Shipped n u) h = tt
+way_of picks _ _ h = h
 
 pub ways_posted : (first : ℤ) (act : Act) (before : List Act) (ps : List Posting) (c : Command) → AllWays (posted first act before ps c)
-ways_posted first act before ps (Receive r) = way_posting (next_number before) r.lot Supplier (InBin r.bin) r.qty tt
-ways_posted first act before ps (Move m) = way_posting (next_number before) m.lot (InBin m.from) (InBin m.to) m.qty tt
-ways_posted first act before ps (Count c) =
-    let have = balance (is_bin c.bin) (is_lot c.lot) ps in
-    ways-append (posting (next_number before) c.lot WriteOff (InBin c.bin) (c.qty - have)) (posting (next_number before) c.lot (InBin c.bin) WriteOff (have - c.qty))
-    (way_posting (next_number before) c.lot WriteOff (InBin c.bin) (c.qty - have) tt) (way_posting (next_number before) c.lot (InBin c.bin) WriteOff (have - c.qty) tt)
-ways_posted first act before ps (Adjust a) = ways_written (next_number before) ps a.lot a.bin a.change
-ways_posted first act before ps (Pick p) = way_posting (next_number before) p.lot (InBin p.bin) (Stage p.order) p.qty tt
-ways_posted first act before ps (Unpick p) = way_posting (next_number before) p.lot (Stage p.order) (InBin p.bin) p.qty tt
-ways_posted first act before ps (Ship o) = ways_shipped (next_number before) ps (shipments_so_far first before + 1) o (lots before)
-ways_posted first act before ps (Hold l) = ways_returned (next_number before) ps (orders before) (made_unshippable first act before)
-ways_posted first act before ps (Recall l) = ways_returned (next_number before) ps (orders before) (made_unshippable first act before)
-ways_posted first act before ps (Least l) = ways_returned (next_number before) ps (orders before) (made_unshippable first act before)
-ways_posted first act before ps (OpenDay day) = ways_returned (next_number before) ps (orders before) (made_unshippable first act before)
-ways_posted first act before ps (Item i) = tt
-ways_posted first act before ps (Bin b) = tt
-ways_posted first act before ps (Order o) = tt
-ways_posted first act before ps (Urgent o) = tt
-ways_posted first act before ps (Cancel o) = tt
-ways_posted first act before ps (Release l) = tt
+ways_posted first act before ps c =
+    subst AllWays (entry_posted first act before ps c) (each_of_entry (λ p. IsWay p.from p.to) first act before ps (entry_of c) (shown (entry_of c) (step_of c)))
+  where
+    shown : (e : Entry) → HasStep (is_pick c) e → Shown (λ p. IsWay p.from p.to) first act before ps e
+    shown Nothing h = tt
+    shown (One l from to q) h = λ e. way_of (is_pick c) from to h
+    shown (Corrected l b found) h = (λ e. tt, λ e. tt)
+    shown (ShippedOff o) h = λ l e. tt
+    shown Returned h = all_returned (λ p. IsWay p.from p.to) first act before ps (λ l o e. tt)
 
 -- The cards of a lot, posting by posting
 
@@ -108,20 +76,7 @@ module _ (first : ℤ) (act : Act) (before : List Act) (l : LotId) where
   one_posting p (InBin b) (Stage o) h = omega arith
   one_posting p (Stage o) (InBin b) h = omega arith
   one_posting p (Stage o) (Shipped n u) h = omega (arith, none_of (is_lot l p.lot) (unsigned_abs (neg_ℤ (pos p.qty))))
-  one_posting p Supplier Supplier h = absurd h
-  one_posting p Supplier WriteOff h = absurd h
-  one_posting p Supplier (Stage o) h = absurd h
-  one_posting p Supplier (Shipped n o) h = absurd h
-  one_posting p WriteOff Supplier h = absurd h
-  one_posting p WriteOff WriteOff h = absurd h
-  one_posting p WriteOff (Stage o) h = absurd h
-  one_posting p WriteOff (Shipped n o) h = absurd h
-  one_posting p (InBin b) Supplier h = absurd h
-  one_posting p (InBin b) (Shipped n o) h = absurd h
-  one_posting p (Stage o) Supplier h = absurd h
-  one_posting p (Stage o) WriteOff h = absurd h
-  one_posting p (Stage o) (Stage u) h = absurd h
-  one_posting p (Shipped n o) to h = absurd h
+  one_posting p _ _ h = absurd h
 
   abbrev all_lines : List Posting → List CardRow
   all_lines ps = flat_map (λ p. lines p p.from p.to) ps

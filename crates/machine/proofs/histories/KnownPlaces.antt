@@ -1,19 +1,10 @@
 -- On a history units stand only in known bins, on stages of known order lines and in known shipments, and only of known lots.
-use Rattle.machine.proofs.Words.{◌≡◌, ℕ, suc, ◌+◌, ◌-◌, Bool, true, false, ◌&&◌, List, [], ◌∷◌, ◌++◌, refl, ap, sym, ◌∙◌, arith, eq-eqb, ◌==◌, if◌then◌else◌, find, Option, Some, None, is_some, ℤ, pos, negsuc, list_any, eqb-true, same_text, LotId, Key, NewBin, Receipt, Command, Item, Bin, Receive, Move, Count, Adjust, Order, Cancel, Pick, Unpick, Ship, Hold, Release, Recall, OpenDay, Least, Urgent, ShipmentRow, Act, next_number, gathered, Place, Supplier, InBin, Stage, Shipped, WriteOff, Posting, balance, is_bin, is_stage, is_lot, is_shipment, KnownLot, Placed, RETURNS, bin_in, bins, has_bin, returns_bin, lots, lots_after, lot_among, has_lot, with_receipt, orders, order_named, has_order, has_line, lines_placed, shipments, shipments_so_far, today, posting, correction, written, cleared, shipped_off, lot_returned, returned, made_unshippable, posted, postings, verdict, IsHistory}
-use Rattle.machine.proofs.Tests.{same_text_is, is_lot_refl, is_lot_is, and_both, and_later_false}
-use Rattle.machine.proofs.histories.Accepted.{receive_accepted, move_accepted, count_accepted, adjust_accepted, pick_accepted, unpick_accepted, order_accepted, urgent_accepted}
+use Rattle.machine.proofs.Words.{◌≡◌, ℕ, ◌+◌, ◌-◌, Bool, true, false, ◌&&◌, List, [], ◌∷◌, ◌++◌, refl, ap, sym, subst, ◌∙◌, arith, eq-eqb, ◌==◌, if◌then◌else◌, find, Option, Some, None, is_some, ℤ, list_any, eqb-true, same_text, LotId, NewBin, Receipt, Command, Bin, Receive, Order, Ship, Urgent, ShipmentRow, Act, next_number, gathered, Place, Supplier, InBin, Stage, Shipped, WriteOff, Posting, balance, is_bin, is_stage, is_lot, is_shipment, KnownLot, Placed, RETURNS, bin_in, bins, has_bin, returns_bin, lots, lots_after, lot_among, has_lot, with_receipt, order_named, has_order, has_line, lines_placed, shipments, shipments_so_far, postings, postings_of, verdict, IsHistory}
+use Rattle.machine.proofs.Tests.{same_text_is, is_lot_is, and_both, and_later_false}
+use Rattle.machine.proofs.histories.Accepted.{order_accepted, urgent_accepted}
+pub use Rattle.machine.proofs.histories.ActFacts.{has_shipment, KnownPlace}
+use Rattle.machine.proofs.histories.ActFacts.{Entry, Nothing, One, Corrected, ShippedOff, Returned, entry_of, entry_posted, Facts, facts_of, Each, each-append, each_of_entry, Cleared, Shown, all_returned}
 use Rattle.machine.proofs.histories.Cells.{Cells, into, holds}
-
-abbrev pub has_shipment : ℤ → List Act → ℕ → Bool
-has_shipment first acts n = is_some (find (λ s. n == s.number) (shipments first acts))
-
--- a place is known to the acts, for a lot
-abbrev pub KnownPlace : ℤ → List Act → Place → LotId → Type 0
-KnownPlace first acts Supplier l = Unit {0}
-KnownPlace first acts WriteOff l = Unit {0}
-KnownPlace first acts (InBin b) l = has_bin acts b ≡ true
-KnownPlace first acts (Stage o) l = has_line acts o l.gtin ≡ true
-KnownPlace first acts (Shipped n o) l = has_shipment first acts n ≡ true
 
 pub record IsKnown (first : ℤ) (acts : List Act) (p : Posting) : Type 0 where
   pub lot : has_lot acts p.lot ≡ true
@@ -21,8 +12,7 @@ pub record IsKnown (first : ℤ) (acts : List Act) (p : Posting) : Type 0 where
   pub from : KnownPlace first acts p.from p.lot
 
 abbrev pub AllKnown : ℤ → List Act → List Posting → Type 0
-AllKnown first acts [] = Unit {0}
-AllKnown first acts (p ∷ ps) = IsKnown first acts p × AllKnown first acts ps
+AllKnown first acts = Each (IsKnown first acts)
 
 -- What is known stays known
 
@@ -105,15 +95,6 @@ module _ (first : ℤ) (act : Act) (before : List Act) (ok : verdict first befor
     all_stay ps h.1,
   )
 
-known-append : (first : ℤ) (acts : List Act) (ps qs : List Posting) → AllKnown first acts ps → AllKnown first acts qs → AllKnown first acts (ps ++ qs)
-known-append first acts [] qs h k = k
-known-append first acts (p ∷ ps) qs h k = (h.0, known-append first acts ps qs h.1 k)
-
-known_posting : (first : ℤ) (acts : List Act) (n : ℕ) (l : LotId) (from to : Place) (q : ℕ)
-    → ((q == 0) ≡ false → IsKnown first acts (record { act = n; lot = l; from = from; to = to; qty = q })) → AllKnown first acts (posting n l from to q)
-known_posting first acts n l from to q h =
-    elim (q == 0) as (λ b. (q == 0) ≡ b → AllKnown first acts (if b then [] else record { act = n; lot = l; from = from; to = to; qty = q } ∷ [])) [ true ↦ λ e. tt | false ↦ λ e. (h e, tt) ] refl
-
 -- Cells that no known place has
 
 abbrev pub Misses : ℤ → List Act → Cells → Type 0
@@ -149,10 +130,7 @@ on_stage first acts o l (p ∷ ps) h e =
           lot = ap (λ (x : LotId). has_lot acts x) lot ∙ (h.0).lot;
           line = (λ i. has_line acts (same_text_is o u two.0 i) (lot i).gtin) ∙ k;
         }
-    at_place (InBin b) k t = let f : false ≡ true = t in cc
-    at_place Supplier k t = let f : false ≡ true = t in cc
-    at_place WriteOff k t = let f : false ≡ true = t in cc
-    at_place (Shipped n u) k t = let f : false ≡ true = t in cc
+    at_place _ k t = let f : false ≡ true = t in cc
 
 less_zero : (a b : ℕ) → (a - b == 0) ≡ false → (a == 0) ≡ false
 less_zero a b e =
@@ -175,99 +153,34 @@ module _ (first : ℤ) (act : Act) (before : List Act) (ok : verdict first befor
   abbrev acts : List Act
   acts = act ∷ before
 
-  abbrev n : ℕ
-  n = next_number before
-
   abbrev ps : List Posting
   ps = postings first before
 
-  known_cleared : (to : Place) (o : List ℕ) (l : LotId) → KnownPlace first acts to l → AllKnown first acts (cleared n ps to o l)
-  known_cleared to o l k =
-      known_posting first acts n l (Stage o) to (balance (is_stage o) (is_lot l) ps)
-      (λ e. let s = on_stage first before o l ps known (less_zero _ _ e) in record { lot = lot_stays first act before ok l s.lot; to = k; from = line_stays first act before ok o l.gtin s.line })
+  off_stage : (to : Place) (o : List ℕ) (l : LotId) → KnownPlace first acts to l → Cleared (IsKnown first acts) (next_number before) ps to o l
+  off_stage to o l k e =
+      let s = on_stage first before o l ps known (less_zero _ _ e) in
+      record { lot = lot_stays first act before ok l s.lot; to = k; from = line_stays first act before ok o l.gtin s.line }
 
-  known_shipped : (s : ℕ) (o : List ℕ) (ks : List KnownLot) → has_shipment first acts s ≡ true → AllKnown first acts (shipped_off n s o ks ps)
-  known_shipped s o [] h = tt
-  known_shipped s o (k ∷ ks) h = known-append first acts (cleared n ps (Shipped s o) o k.lot) (shipped_off n s o ks ps) (known_cleared (Shipped s o) o k.lot h) (known_shipped s o ks h)
+  shown : (e : Entry) → Facts first act before e → Shown (IsKnown first acts) first act before ps e
+  shown Nothing f = tt
+  shown (One l from to q) f = λ e. record { lot = f.lot; to = place_stays first act before ok to l f.to; from = place_stays first act before ok from l f.from }
+  shown (Corrected l b found) f =
+      let bin = bin_stays first act before ok b f.bin in
+      (λ e. record { lot = f.lot; to = bin; from = tt }, λ e. record { lot = f.lot; to = tt; from = bin })
+  shown (ShippedOff o) f = λ l. off_stage (Shipped (shipments_so_far first before + 1) o) o l f.numbered
+  shown Returned f = all_returned (IsKnown first acts) first act before ps (λ l o. off_stage (InBin RETURNS) o l (has_returns acts))
 
-  known_lot_returned : (k : KnownLot) (os : List Placed) → AllKnown first acts (lot_returned n os ps k)
-  known_lot_returned k [] = tt
-  known_lot_returned k (p ∷ os) =
-      known-append first acts (cleared n ps (InBin RETURNS) p.order k.lot) (lot_returned n os ps k) (known_cleared (InBin RETURNS) p.order k.lot (has_returns acts)) (known_lot_returned k os)
-
-  known_returned : (ks : List KnownLot) (os : List Placed) → AllKnown first acts (returned n ks os ps)
-  known_returned [] os = tt
-  known_returned (k ∷ ks) os = known-append first acts (lot_returned n os ps k) (returned n ks os ps) (known_lot_returned k os) (known_returned ks os)
-
-  known_correction : (l : LotId) (b : List ℕ) (have found : ℕ) → has_lot acts l ≡ true → has_bin acts b ≡ true → AllKnown first acts (correction n l b have found)
-  known_correction l b have found h k =
-      known-append first acts (posting n l WriteOff (InBin b) (found - have)) (posting n l (InBin b) WriteOff (have - found))
-      (known_posting first acts n l WriteOff (InBin b) (found - have) (λ e. record { lot = h; to = k; from = tt }))
-      (known_posting first acts n l (InBin b) WriteOff (have - found) (λ e. record { lot = h; to = tt; from = k }))
-
-  known_written : (l : LotId) (b : List ℕ) (z : ℤ) → has_lot acts l ≡ true → has_bin acts b ≡ true → AllKnown first acts (written n l b z)
-  known_written l b (pos k) h e = known_posting first acts n l WriteOff (InBin b) k (λ f. record { lot = h; to = e; from = tt })
-  known_written l b (negsuc k) h e = known_posting first acts n l (InBin b) WriteOff (suc k) (λ f. record { lot = h; to = tt; from = e })
-
--- The postings of an act, by its command
-
-now_received : (n : ℕ) (r : Receipt) (ks : List KnownLot) → is_some (lot_among r.lot (with_receipt n r ks)) ≡ true
-now_received n r ks =
-    elim (is_some (lot_among r.lot ks)) as (λ b. is_some (lot_among r.lot ks) ≡ b → is_some (lot_among r.lot (if b then ks else record { lot = r.lot; expiry = r.expiry; came = n } ∷ ks)) ≡ true) [
-      | true ↦ λ e. e
-      | false ↦ λ e. ap (λ t. is_some (if t then Some (record { lot = r.lot; expiry = r.expiry; came = n }) else lot_among r.lot ks)) (is_lot_refl r.lot)
-    ] refl
-
-known_posted : (first : ℤ) (key : Key) (before : List Act) (c : Command) → verdict first before c ≡ None → AllKnown first before (postings first before)
-    → AllKnown first (record { key = key; command = c } ∷ before) (posted first (record { key = key; command = c }) before (postings first before) c)
-known_posted first key before (Receive r) ok known =
-    let a : Act = record { key = key; command = Receive r } in
-    known_posting first (a ∷ before) (next_number before) r.lot Supplier (InBin r.bin) r.qty
-    (λ e. record { lot = now_received (next_number before) r (lots before); to = bin_stays first a before ok r.bin (receive_accepted first before r ok).bin; from = tt })
-known_posted first key before (Move m) ok known =
-    let a : Act = record { key = key; command = Move m } in
-    let h = move_accepted first before m ok in
-    known_posting first (a ∷ before) (next_number before) m.lot (InBin m.from) (InBin m.to) m.qty
-    (λ e. record { lot = lot_stays first a before ok m.lot h.lot; to = bin_stays first a before ok m.to h.to; from = bin_stays first a before ok m.from h.from })
-known_posted first key before (Count c) ok known =
-    let a : Act = record { key = key; command = Count c } in
-    let h = count_accepted first before c ok in
-    known_correction first a before ok known c.lot c.bin (balance (is_bin c.bin) (is_lot c.lot) (postings first before)) c.qty (lot_stays first a before ok c.lot h.lot) (bin_stays first a before ok c.bin h.bin)
-known_posted first key before (Adjust j) ok known =
-    let a : Act = record { key = key; command = Adjust j } in
-    let h = adjust_accepted first before j ok in
-    known_written first a before ok known j.lot j.bin j.change (lot_stays first a before ok j.lot h.lot) (bin_stays first a before ok j.bin h.bin)
-known_posted first key before (Pick p) ok known =
-    let a : Act = record { key = key; command = Pick p } in
-    let h = pick_accepted first before p ok in
-    known_posting first (a ∷ before) (next_number before) p.lot (InBin p.bin) (Stage p.order) p.qty
-    (λ e. record { lot = lot_stays first a before ok p.lot h.lot; to = line_stays first a before ok p.order p.lot.gtin h.line; from = bin_stays first a before ok p.bin h.bin })
-known_posted first key before (Unpick p) ok known =
-    let a : Act = record { key = key; command = Unpick p } in
-    let h = unpick_accepted first before p ok in
-    known_posting first (a ∷ before) (next_number before) p.lot (Stage p.order) (InBin p.bin) p.qty
-    (λ e. record { lot = lot_stays first a before ok p.lot h.lot; to = bin_stays first a before ok p.bin h.bin; from = line_stays first a before ok p.order p.lot.gtin h.line })
-known_posted first key before (Ship o) ok known =
-    known_shipped first (record { key = key; command = Ship o }) before ok known (shipments_so_far first before + 1) o (lots before)
-    (ap (λ t. is_some (if t then Some (record { number = shipments_so_far first before + 1; act = next_number before; day = today first before; order = o }) else find (λ s. shipments_so_far first before + 1 == s.number) (shipments first before))) (eq-eqb (shipments_so_far first before + 1) _ refl))
-known_posted first key before (Hold l) ok known = known_returned first (record { key = key; command = Hold l }) before ok known (made_unshippable first (record { key = key; command = Hold l }) before) (orders before)
-known_posted first key before (Recall l) ok known = known_returned first (record { key = key; command = Recall l }) before ok known (made_unshippable first (record { key = key; command = Recall l }) before) (orders before)
-known_posted first key before (OpenDay d) ok known = known_returned first (record { key = key; command = OpenDay d }) before ok known (made_unshippable first (record { key = key; command = OpenDay d }) before) (orders before)
-known_posted first key before (Least l) ok known = known_returned first (record { key = key; command = Least l }) before ok known (made_unshippable first (record { key = key; command = Least l }) before) (orders before)
-known_posted first key before (Item i) ok known = tt
-known_posted first key before (Bin b) ok known = tt
-known_posted first key before (Order o) ok known = tt
-known_posted first key before (Urgent o) ok known = tt
-known_posted first key before (Cancel o) ok known = tt
-known_posted first key before (Release l) ok known = tt
+  known_posted : AllKnown first acts (postings_of first act before)
+  known_posted =
+      let e = entry_of act.command in
+      subst (AllKnown first acts) (entry_posted first act before ps act.command) (each_of_entry (IsKnown first acts) first act before ps e (shown e (facts_of first act.key before act.command ok)))
 
 -- every posting of a history names known places and a known lot
 pub known_postings : (first : ℤ) (acts : List Act) → IsHistory first acts → AllKnown first acts (postings first acts)
 known_postings first [] h = tt
 known_postings first (act ∷ before) h =
     let known = known_postings first before h.0 in
-    known-append first (act ∷ before) (posted first act before (postings first before) act.command) (postings first before)
-    (known_posted first act.key before act.command h.1.passes known) (all_stay first act before h.1.passes (postings first before) known)
+    each-append (IsKnown first (act ∷ before)) (postings_of first act before) (postings first before) (known_posted first act before h.1.passes known) (all_stay first act before h.1.passes (postings first before) known)
 
 module _ (first : ℤ) (acts : List Act) (history : IsHistory first acts) where
   -- cells that no known place has hold nothing
@@ -283,10 +196,7 @@ module _ (first : ℤ) (acts : List Act) (history : IsHistory first acts) where
             | true ↦ λ t. let f : true ≡ false = sym k ∙ ap (λ (x : List ℕ). has_bin acts x) (sym (same_text_is b c t)) ∙ e in cc
             | false ↦ λ t. refl
           ] refl
-      at_place (Stage o) l k h = refl
-      at_place (Shipped n o) l k h = refl
-      at_place Supplier l k h = refl
-      at_place WriteOff l k h = refl
+      at_place _ l k h = refl
 
   pub unknown_order_is_unstaged : (o : List ℕ) (lots : LotId → Bool) → has_order acts o ≡ false → balance (is_stage o) lots (postings first acts) ≡ 0
   unknown_order_is_unstaged o lots e = unknown_holds_nothing (λ p l. is_stage o p && lots l) at_place
@@ -297,10 +207,7 @@ module _ (first : ℤ) (acts : List Act) (history : IsHistory first acts) where
             | true ↦ λ t. let f : true ≡ false = sym (line_known acts u l.gtin k) ∙ ap (λ (x : List ℕ). has_order acts x) (sym (same_text_is o u t)) ∙ e in cc
             | false ↦ λ t. refl
           ] refl
-      at_place (InBin c) l k h = refl
-      at_place (Shipped n u) l k h = refl
-      at_place Supplier l k h = refl
-      at_place WriteOff l k h = refl
+      at_place _ l k h = refl
 
   pub unknown_shipment_is_empty : (n : ℕ) (lots : LotId → Bool) → has_shipment first acts n ≡ false → balance (is_shipment n) lots (postings first acts) ≡ 0
   unknown_shipment_is_empty n lots e = unknown_holds_nothing (λ p l. is_shipment n p && lots l) at_place
@@ -311,10 +218,7 @@ module _ (first : ℤ) (acts : List Act) (history : IsHistory first acts) where
             | true ↦ λ t. let f : true ≡ false = sym k ∙ ap (λ (x : ℕ). has_shipment first acts x) (sym (eqb-true n m t)) ∙ e in cc
             | false ↦ λ t. refl
           ] refl
-      at_place (InBin c) l k h = refl
-      at_place (Stage u) l k h = refl
-      at_place Supplier l k h = refl
-      at_place WriteOff l k h = refl
+      at_place _ l k h = refl
 
   pub unknown_lot_is_nowhere : (l : LotId) (places : Place → Bool) → has_lot acts l ≡ false → balance places (is_lot l) (postings first acts) ≡ 0
   unknown_lot_is_nowhere l places e = unknown_holds_nothing (λ p m. places p && is_lot l m) other
@@ -340,7 +244,4 @@ module _ (first : ℤ) (acts : List Act) (history : IsHistory first acts) where
                 cc
             | false ↦ λ t. refl
           ] refl
-      at_place (InBin c) m k h = refl
-      at_place (Shipped n u) m k h = refl
-      at_place Supplier m k h = refl
-      at_place WriteOff m k h = refl
+      at_place _ m k h = refl

@@ -107,15 +107,9 @@ module _ (first : ℤ) (acts : List Act) (history : IsHistory first acts) (l : L
   off_test : {b : Bool} → false ≡ true → b ≡ true
   off_test e = cc
 
-  off_tests : {b : Bool} → false ≡ true → b ≡ false
-  off_tests e = cc
-
   in_any_bin : (b : List ℕ) (p : Place) → is_bin b p ≡ true → any_bin p ≡ true
   in_any_bin b (InBin c) e = refl
-  in_any_bin b Supplier e = e
-  in_any_bin b WriteOff e = e
-  in_any_bin b (Stage o) e = e
-  in_any_bin b (Shipped n o) e = e
+  in_any_bin b _ e = e
 
   bins_within : (bs : List NewBin) → AllWithin (λ (b : NewBin). is_bin b.bin) (λ b. record { supplier = refl; write_off = refl }) any_bin bs
   bins_within [] = tt
@@ -123,10 +117,7 @@ module _ (first : ℤ) (acts : List Act) (history : IsHistory first acts) (l : L
 
   other_bin : (b c : List ℕ) → same_text b c ≡ false → (p : Place) → is_bin c p ≡ true → is_bin b p ≡ false
   other_bin b c e (InBin d) t = ap (λ (x : List ℕ). same_text b x) (sym (same_text_is c d t)) ∙ e
-  other_bin b c e Supplier t = refl
-  other_bin b c e WriteOff t = refl
-  other_bin b c e (Stage o) t = refl
-  other_bin b c e (Shipped n o) t = refl
+  other_bin b c e _ t = refl
 
   bin_off : (b : NewBin) (bs : List NewBin) → list_any (λ (x : NewBin). same_text b.bin x.bin) bs ≡ false → OffAll (λ (b : NewBin). is_bin b.bin) (λ b. record { supplier = refl; write_off = refl }) b bs
   bin_off b [] e = tt
@@ -143,10 +134,7 @@ module _ (first : ℤ) (acts : List Act) (history : IsHistory first acts) (l : L
   bins_covered : (p : Place) (m : LotId) → any_bin p ≡ true → KnownPlace first acts p m → list_any (λ (b : NewBin). is_bin b.bin p) (bins acts) ≡ true
   bins_covered (InBin c) m e k =
       any_same (λ (b : NewBin). same_text b.bin c) (λ (b : NewBin). same_text c b.bin) (λ b. same_text_turned b.bin c) (bins acts) ∙ sym (any_found (λ (b : NewBin). same_text c b.bin) (bins acts)) ∙ k
-  bins_covered Supplier m e k = off_test e
-  bins_covered WriteOff m e k = off_test e
-  bins_covered (Stage o) m e k = off_test e
-  bins_covered (Shipped n o) m e k = off_test e
+  bins_covered _ m e k = off_test e
 
   pub bins_hold : held any_bin ≡ in_bins first acts l
   bins_hold =
@@ -155,10 +143,7 @@ module _ (first : ℤ) (acts : List Act) (history : IsHistory first acts) (l : L
 
   in_any_stage : (o : List ℕ) (p : Place) → is_stage o p ≡ true → any_stage p ≡ true
   in_any_stage o (Stage u) e = refl
-  in_any_stage o Supplier e = e
-  in_any_stage o WriteOff e = e
-  in_any_stage o (InBin b) e = e
-  in_any_stage o (Shipped n u) e = e
+  in_any_stage o _ e = e
 
   stages_within : (os : List Placed) → AllWithin (λ (o : Placed). is_stage o.order) (λ o. record { supplier = refl; write_off = refl }) any_stage os
   stages_within [] = tt
@@ -166,10 +151,7 @@ module _ (first : ℤ) (acts : List Act) (history : IsHistory first acts) (l : L
 
   other_stage : (o u : List ℕ) → same_text o u ≡ false → (p : Place) → is_stage u p ≡ true → is_stage o p ≡ false
   other_stage o u e (Stage v) t = ap (λ (x : List ℕ). same_text o x) (sym (same_text_is u v t)) ∙ e
-  other_stage o u e Supplier t = refl
-  other_stage o u e WriteOff t = refl
-  other_stage o u e (InBin b) t = refl
-  other_stage o u e (Shipped n v) t = refl
+  other_stage o u e _ t = refl
 
   stage_off : (o : Placed) (os : List Placed) → list_any (same_order o) os ≡ false → OffAll (λ (o : Placed). is_stage o.order) (λ o. record { supplier = refl; write_off = refl }) o os
   stage_off o [] e = tt
@@ -182,10 +164,7 @@ module _ (first : ℤ) (acts : List Act) (history : IsHistory first acts) (l : L
   stages_covered : (p : Place) (m : LotId) → any_stage p ≡ true → KnownPlace first acts p m → list_any (λ (o : Placed). is_stage o.order p) (orders acts) ≡ true
   stages_covered (Stage u) m e k =
       any_same (λ (o : Placed). same_text o.order u) (λ (o : Placed). same_text u o.order) (λ o. same_text_turned o.order u) (orders acts) ∙ sym (any_found (λ (o : Placed). same_text u o.order) (orders acts)) ∙ line_known acts u m.gtin k
-  stages_covered Supplier m e k = off_test e
-  stages_covered WriteOff m e k = off_test e
-  stages_covered (InBin b) m e k = off_test e
-  stages_covered (Shipped n o) m e k = off_test e
+  stages_covered _ m e k = off_test e
 
   pub stages_hold : held any_stage ≡ on_stages first acts l
   stages_hold =
@@ -194,10 +173,7 @@ module _ (first : ℤ) (acts : List Act) (history : IsHistory first acts) (l : L
 
   in_any_shipment : (n : ℕ) (p : Place) → is_shipment n p ≡ true → any_shipment p ≡ true
   in_any_shipment n (Shipped m u) e = refl
-  in_any_shipment n Supplier e = e
-  in_any_shipment n WriteOff e = e
-  in_any_shipment n (InBin b) e = e
-  in_any_shipment n (Stage u) e = e
+  in_any_shipment n _ e = e
 
   shipments_within : (ss : List ShipmentRow) → AllWithin (λ (s : ShipmentRow). is_shipment s.number) (λ s. record { supplier = refl; write_off = refl }) any_shipment ss
   shipments_within [] = tt
@@ -205,10 +181,7 @@ module _ (first : ℤ) (acts : List Act) (history : IsHistory first acts) (l : L
 
   other_shipment : (n m : ℕ) → (n == m) ≡ false → (p : Place) → is_shipment m p ≡ true → is_shipment n p ≡ false
   other_shipment n m e (Shipped k v) t = ap (λ (x : ℕ). n == x) (sym (eqb-true m k t)) ∙ e
-  other_shipment n m e Supplier t = refl
-  other_shipment n m e WriteOff t = refl
-  other_shipment n m e (InBin b) t = refl
-  other_shipment n m e (Stage v) t = refl
+  other_shipment n m e _ t = refl
 
   shipment_off : (s : ShipmentRow) (ss : List ShipmentRow) → list_any (λ (t : ShipmentRow). s.number == t.number) ss ≡ false → OffAll (λ (s : ShipmentRow). is_shipment s.number) (λ s. record { supplier = refl; write_off = refl }) s ss
   shipment_off s [] e = tt
@@ -221,10 +194,7 @@ module _ (first : ℤ) (acts : List Act) (history : IsHistory first acts) (l : L
   shipments_covered : (p : Place) (m : LotId) → any_shipment p ≡ true → KnownPlace first acts p m → list_any (λ (s : ShipmentRow). is_shipment s.number p) (shipments first acts) ≡ true
   shipments_covered (Shipped n u) m e k =
       any_same (λ (s : ShipmentRow). s.number == n) (λ (s : ShipmentRow). n == s.number) (λ s. equal_turned s.number n) (shipments first acts) ∙ sym (any_found (λ (s : ShipmentRow). n == s.number) (shipments first acts)) ∙ k
-  shipments_covered Supplier m e k = off_test e
-  shipments_covered WriteOff m e k = off_test e
-  shipments_covered (InBin b) m e k = off_test e
-  shipments_covered (Stage u) m e k = off_test e
+  shipments_covered _ m e k = off_test e
 
   pub shipments_hold : held any_shipment ≡ in_shipments first acts l
   shipments_hold =
@@ -259,10 +229,7 @@ module _ (first : ℤ) (acts : List Act) (history : IsHistory first acts) (l : L
 
       left_at : (p : Place) → less (less any_inner any_bin) any_stage p ≡ any_shipment p
       left_at (Stage o) = refl
-      left_at (InBin b) = refl
-      left_at Supplier = refl
-      left_at WriteOff = refl
-      left_at (Shipped n o) = refl
+      left_at _ = refl
 
       shipments_left : less (less any_inner any_bin) any_stage ≡ any_shipment
       shipments_left = λ i p. left_at p i

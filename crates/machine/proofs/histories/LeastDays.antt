@@ -1,5 +1,5 @@
 -- The days that items ask for: none before the item is known, none without a Least, and never too many.
-use Rattle.machine.proofs.Words.{◌≡◌, ℕ, Bool, true, false, List, [], ◌∷◌, refl, ap, sym, ◌∙◌, find, if◌then◌else◌, Some, is_some, ℤ, same_text, is_gtin, is_least_days, is_sound, Key, NewItem, Command, Item, Bin, Receive, Move, Count, Adjust, Order, Cancel, Pick, Unpick, Ship, Hold, Release, Recall, OpenDay, Least, Urgent, Act, gathered, item_named, has_item, least_in, days_asked, least_days, IsHistory}
+use Rattle.machine.proofs.Words.{◌≡◌, ℕ, Bool, true, false, List, [], ◌∷◌, refl, ap, sym, ◌∙◌, find, if◌then◌else◌, Some, is_some, ℤ, same_text, is_gtin, is_least_days, is_sound, Key, NewItem, Command, Item, Least, Act, gathered, item_named, has_item, least_in, days_asked, least_days, IsHistory}
 use Rattle.machine.proofs.Tests.{same_text_is, and_both}
 use Rattle.machine.proofs.histories.Accepted.{least_accepted}
 
@@ -24,21 +24,7 @@ module _ (key : Key) (before : List Act) (g : List ℕ) where
         | false ↦ λ t. k e
       ] refl
   none_asked first (Item i) h k e = k (still_unknown i e)
-  none_asked first (Bin b) h k e = k e
-  none_asked first (Receive r) h k e = k e
-  none_asked first (Move m) h k e = k e
-  none_asked first (Count c) h k e = k e
-  none_asked first (Adjust a) h k e = k e
-  none_asked first (Order o) h k e = k e
-  none_asked first (Urgent o) h k e = k e
-  none_asked first (Cancel o) h k e = k e
-  none_asked first (Pick p) h k e = k e
-  none_asked first (Unpick p) h k e = k e
-  none_asked first (Ship o) h k e = k e
-  none_asked first (Hold l) h k e = k e
-  none_asked first (Release l) h k e = k e
-  none_asked first (Recall l) h k e = k e
-  none_asked first (OpenDay d) h k e = k e
+  none_asked first _ h k e = k e
 
 -- an item that is not known asks for no days
 pub unknown_item_asks_none : (first : ℤ) (acts : List Act) (g : List ℕ) → IsHistory first acts → has_item acts g ≡ false → least_days acts g ≡ 0
@@ -51,22 +37,7 @@ still_sound key before g (Least l) e s = elim (same_text g l.gtin) as (λ b. is_
   | true ↦ (and_both (is_gtin l.gtin) (is_least_days l.days) s).1
   | false ↦ e
 ]
-still_sound key before g (Item i) e s = e
-still_sound key before g (Bin b) e s = e
-still_sound key before g (Receive r) e s = e
-still_sound key before g (Move m) e s = e
-still_sound key before g (Count c) e s = e
-still_sound key before g (Adjust a) e s = e
-still_sound key before g (Order o) e s = e
-still_sound key before g (Urgent o) e s = e
-still_sound key before g (Cancel o) e s = e
-still_sound key before g (Pick p) e s = e
-still_sound key before g (Unpick p) e s = e
-still_sound key before g (Ship o) e s = e
-still_sound key before g (Hold l) e s = e
-still_sound key before g (Release l) e s = e
-still_sound key before g (Recall l) e s = e
-still_sound key before g (OpenDay d) e s = e
+still_sound key before g _ e s = e
 
 pub least_days_sound : (first : ℤ) (acts : List Act) (g : List ℕ) → IsHistory first acts → is_least_days (least_days acts g) ≡ true
 least_days_sound first [] g h = refl

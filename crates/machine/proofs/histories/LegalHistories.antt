@@ -1,7 +1,7 @@
 -- The postings of a history take only what is there.
-use Rattle.machine.proofs.Words.{◌≡◌, ℕ, suc, ◌+◌, ◌-◌, ◌≤◌, true, false, ◌&&◌, List, [], ◌∷◌, ◌++◌, refl, ap, sym, subst, ◌∙◌, arith, append_assoc, ◌==◌, if◌then◌else◌, ℤ, pos, negsuc, None, list_any, same_text, LotId, Command, Item, Bin, Receive, Move, Count, Adjust, Order, Cancel, Pick, Unpick, Ship, Hold, Release, Recall, OpenDay, Least, Urgent, Act, next_number, Place, Supplier, InBin, Stage, Shipped, WriteOff, Posting, balance, is_bin, is_lot, is_stage, KnownLot, Placed, lots, orders, shipments_so_far, RETURNS, posting, correction, written, cleared, shipped_off, lot_returned, returned, made_unshippable, posted, postings, verdict, taken_off, IsHistory, NeverOverdrawn}
+use Rattle.machine.proofs.Words.{◌≡◌, ℕ, ◌+◌, ◌-◌, ◌≤◌, true, false, ◌&&◌, List, [], ◌∷◌, ◌++◌, refl, ap, sym, subst, ◌∙◌, arith, append_assoc, ◌==◌, if◌then◌else◌, ℤ, None, list_any, same_text, LotId, Act, next_number, Place, InBin, Stage, Shipped, WriteOff, Posting, balance, is_bin, is_lot, is_stage, KnownLot, Placed, lots, orders, shipments_so_far, RETURNS, posting, correction, cleared, shipped_off, lot_returned, returned, made_unshippable, postings, postings_of, verdict, IsHistory, NeverOverdrawn}
 use Rattle.machine.proofs.Tests.{or_none, and_later_false, and_first_false}
-use Rattle.machine.proofs.histories.Accepted.{move_accepted, adjust_accepted, pick_accepted, unpick_accepted}
+use Rattle.machine.proofs.histories.ActFacts.{Entry, Nothing, One, Corrected, ShippedOff, Returned, entry_of, entry_postings, entry_posted, Facts, facts_of}
 use Rattle.machine.proofs.histories.Cells.{Cells, CanTake, Legal, never_overdrawn, stage_cell, into, out_of, into-append, out_of-append, holds}
 use Rattle.machine.proofs.Apart.{AreApart, apart-filter}
 use Rattle.machine.proofs.histories.Lots.{same_known, lots_apart}
@@ -46,10 +46,6 @@ legal_correction n l b found ps legal =
   where
     less_of : (a b : ℕ) → a - b ≤ a
     less_of a b = omega arith
-
-legal_written : (n : ℕ) (l : LotId) (b : List ℕ) (z : ℤ) (ps : List Posting) → taken_off z ≤ balance (is_bin b) (is_lot l) ps → Legal ps → Legal (written n l b z ++ ps)
-legal_written n l b (pos k) ps fits legal = legal_posting n l WriteOff (InBin b) k ps tt legal
-legal_written n l b (negsuc k) ps fits legal = legal_posting n l (InBin b) WriteOff (suc k) ps fits legal
 
 -- Stages emptied: each posting clears a cell that the others do not see
 
@@ -118,30 +114,21 @@ module _ (first : ℤ) (act : Act) (before : List Act) (history : IsHistory firs
   legal_made_unshippable =
       legal_returned n ps (made_unshippable first act before) (orders before) (apart-filter same_known _ (lots before) (lots_apart before)) (orders_apart first before history) legal
 
-  -- an accepted command takes only what is there
-  pub legal_posted : (c : Command) → verdict first before c ≡ None → Legal (posted first act before ps c ++ ps)
-  legal_posted (Item i) ok = legal
-  legal_posted (Bin b) ok = legal
-  legal_posted (Receive r) ok = legal_posting n r.lot Supplier (InBin r.bin) r.qty ps tt legal
-  legal_posted (Move m) ok = legal_posting n m.lot (InBin m.from) (InBin m.to) m.qty ps (move_accepted first before m ok).there legal
-  legal_posted (Count c) ok = legal_correction n c.lot c.bin c.qty ps legal
-  legal_posted (Adjust a) ok = legal_written n a.lot a.bin a.change ps (adjust_accepted first before a ok).there legal
-  legal_posted (Order o) ok = legal
-  legal_posted (Urgent o) ok = legal
-  legal_posted (Cancel o) ok = legal
-  legal_posted (Pick p) ok = legal_posting n p.lot (InBin p.bin) (Stage p.order) p.qty ps (pick_accepted first before p ok).there legal
-  legal_posted (Unpick p) ok = legal_posting n p.lot (Stage p.order) (InBin p.bin) p.qty ps (unpick_accepted first before p ok).there legal
-  legal_posted (Ship o) ok = legal_shipped_off n ps (shipments_so_far first before + 1) o (lots before) (lots_apart before) legal
-  legal_posted (Hold l) ok = legal_made_unshippable
-  legal_posted (Release l) ok = legal
-  legal_posted (Recall l) ok = legal_made_unshippable
-  legal_posted (OpenDay day) ok = legal_made_unshippable
-  legal_posted (Least l) ok = legal_made_unshippable
+  legal_entry : (e : Entry) → Facts first act before e → Legal (entry_postings first act before ps e ++ ps)
+  legal_entry Nothing h = legal
+  legal_entry (One l from to q) h = legal_posting n l from to q ps h.there legal
+  legal_entry (Corrected l b found) h = legal_correction n l b found ps legal
+  legal_entry (ShippedOff o) h = legal_shipped_off n ps (shipments_so_far first before + 1) o (lots before) (lots_apart before) legal
+  legal_entry Returned h = legal_made_unshippable
+
+  -- an accepted act takes only what is there
+  legal_posted : verdict first before act.command ≡ None → Legal (postings_of first act before ++ ps)
+  legal_posted ok = subst (λ qs. Legal (qs ++ ps)) (entry_posted first act before ps act.command) (legal_entry (entry_of act.command) (facts_of first act.key before act.command ok))
 
 -- in each history, each place has what is taken from it
 pub legal_history : (first : ℤ) (acts : List Act) → IsHistory first acts → Legal (postings first acts)
 legal_history first [] h = tt
-legal_history first (act ∷ before) h = legal_posted first act before h.0 (legal_history first before h.0) act.command h.1.passes
+legal_history first (act ∷ before) h = legal_posted first act before h.0 (legal_history first before h.0) h.1.passes
 
 pub history_never_overdrawn : NeverOverdrawn
 history_never_overdrawn first acts places lots h supplier write_off =

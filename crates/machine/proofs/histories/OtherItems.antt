@@ -1,8 +1,9 @@
 -- An act leaves the items alone that it does not touch.
-use Rattle.machine.proofs.Words.{◌≡◌, ℕ, suc, ◌+◌, ◌-◌, Bool, true, false, ◌&&◌, not, List, [], ◌∷◌, ◌++◌, refl, ap, sym, ◌∙◌, arith, ◌==◌, ◌||◌, if◌then◌else◌, find, filter, map, reverse, flat_map, Option, Some, None, is_some, ℤ, pos, negsuc, int_lt, int_le, ◌+ℤ◌, list_any, ints, same_text, LotId, total, in_order, Key, NewBin, NewOrder, Receipt, NewLeast, OrderLine, Command, Item, Bin, Receive, Move, Count, Adjust, Order, Cancel, Pick, Unpick, Ship, Hold, Release, Recall, OpenDay, Least, Urgent, plan_rows, Act, gathered, next_number, Place, Supplier, InBin, Stage, Shipped, WriteOff, Posting, balance, units_in, units_out, is_bin, is_stage, is_lot, of_item, KnownLot, Placed, RETURNS, lots, lots_of, lot_among, lot_known, has_bin, bin_named, is_store_bin, is_store_row, orders, order_named, lines_placed, has_line, is_cancelled, is_shippable, is_held, is_recalled, is_expired, says_held, hold_in, recall_in, least_in, days_asked, least_days, least_expiry, today, shipments_so_far, posting, written, cleared, shipped_off, lot_returned, returned, posted, postings, is_urgent, is_normal, booking_of, lines_of_item, bookings, need, demands, demand_of, supplies, supply_of, goes_before, item_postings, staged, shipped, in_store, plan, reserved, reserved_of, touches, verdict, IsHistory, OtherItemsAreLeftAlone}
+use Rattle.machine.proofs.Words.{◌≡◌, ℕ, ◌+◌, ◌-◌, Bool, true, false, ◌&&◌, not, List, [], ◌∷◌, ◌++◌, refl, ap, sym, subst, ◌∙◌, arith, ◌==◌, ◌||◌, if◌then◌else◌, find, filter, map, reverse, flat_map, Option, Some, None, is_some, ℤ, pos, int_lt, int_le, ◌+ℤ◌, list_any, ints, same_text, LotId, total, in_order, Key, NewBin, NewOrder, Receipt, NewLeast, OrderLine, Command, Bin, Receive, Order, Cancel, Hold, Release, Recall, OpenDay, Least, Urgent, plan_rows, Act, gathered, next_number, Place, InBin, Posting, units_in, units_out, is_lot, of_item, KnownLot, Placed, lots, lots_of, lot_among, lot_known, has_bin, bin_named, is_store_bin, is_store_row, orders, order_named, lines_placed, has_line, is_cancelled, is_shippable, is_held, is_recalled, is_expired, says_held, hold_in, recall_in, least_in, days_asked, least_days, least_expiry, today, lot_returned, returned, posted, postings, is_urgent, is_normal, booking_of, lines_of_item, bookings, need, demands, demand_of, supplies, supply_of, goes_before, item_postings, staged, shipped, in_store, plan, reserved, reserved_of, touches, verdict, IsHistory, OtherItemsAreLeftAlone}
 use Rattle.machine.proofs.Mapping.{map_reversed, map_appended}
 use Rattle.machine.proofs.Tests.{same_text_is, same_text_refl, is_lot_is, or_none}
 use Rattle.machine.proofs.histories.Accepted.{bin_accepted, order_accepted, urgent_accepted, day_accepted}
+use Rattle.machine.proofs.histories.ActFacts.{Entry, Nothing, One, Corrected, ShippedOff, Returned, entry_of, entry_posted, Facts, facts_of, Each, each-append, each_lot_returned, each_of_entry, Shown}
 use Rattle.machine.proofs.histories.Orders.{orders_found, same_order}
 use Rattle.machine.proofs.Apart.{AllFound, found_kept}
 use Rattle.machine.proofs.histories.KnownPlaces.{AllKnown, KnownPlace, known_postings, unknown_line_is_unstaged}
@@ -10,40 +11,15 @@ use Rattle.machine.proofs.histories.Needs.{needs, reserved_within_needs, unknown
 
 -- Postings of other items
 
+abbrev IsOther : List ℕ → Posting → Type 0
+IsOther g p = of_item g p.lot ≡ false
+
 abbrev AllOther : List ℕ → List Posting → Type 0
-AllOther g [] = Unit {0}
-AllOther g (p ∷ ps) = (of_item g p.lot ≡ false) × AllOther g ps
+AllOther g = Each (IsOther g)
 
 others_filtered : (g : List ℕ) (qs ps : List Posting) → AllOther g qs → filter (λ p. of_item g p.lot) (qs ++ ps) ≡ filter (λ p. of_item g p.lot) ps
 others_filtered g [] ps h = refl
 others_filtered g (q ∷ qs) ps h = ap (λ b. if b then q ∷ filter (λ p. of_item g p.lot) (qs ++ ps) else filter (λ p. of_item g p.lot) (qs ++ ps)) h.0 ∙ others_filtered g qs ps h.1
-
-other-append : (g : List ℕ) (ps qs : List Posting) → AllOther g ps → AllOther g qs → AllOther g (ps ++ qs)
-other-append g [] qs h k = k
-other-append g (p ∷ ps) qs h k = (h.0, other-append g ps qs h.1 k)
-
--- none of its own, as it is of another item or of no units
-other_posting : (g : List ℕ) (n : ℕ) (l : LotId) (from to : Place) (q : ℕ) → (of_item g l ≡ true → (q == 0) ≡ true) → AllOther g (posting n l from to q)
-other_posting g n l from to q h =
-    elim (q == 0) as (λ b. (q == 0) ≡ b → AllOther g (if b then [] else record { act = n; lot = l; from = from; to = to; qty = q } ∷ [])) [
-      | true ↦ λ e. tt
-      | false ↦ λ e. (not_own e, tt)
-    ] refl
-  where
-    not_own : (q == 0) ≡ false → of_item g l ≡ false
-    not_own e = elim (of_item g l) as (λ b. of_item g l ≡ b → b ≡ false) [ true ↦ λ t. let f = h t in cc | false ↦ λ t. refl ] refl
-
-other_lot : (g : List ℕ) (n : ℕ) (l : LotId) (from to : Place) (q : ℕ) → of_item g l ≡ false → AllOther g (posting n l from to q)
-other_lot g n l from to q e = other_posting g n l from to q (λ t. let f : true ≡ false = sym t ∙ e in cc)
-
-other_written : (g : List ℕ) (n : ℕ) (l : LotId) (b : List ℕ) (z : ℤ) → of_item g l ≡ false → AllOther g (written n l b z)
-other_written g n l b (pos k) e = other_lot g n l WriteOff (InBin b) k e
-other_written g n l b (negsuc k) e = other_lot g n l (InBin b) WriteOff (suc k) e
-
-other_returned_lot : (g : List ℕ) (n : ℕ) (ps : List Posting) (k : KnownLot) → of_item g k.lot ≡ false → (os : List Placed) → AllOther g (lot_returned n os ps k)
-other_returned_lot g n ps k e [] = tt
-other_returned_lot g n ps k e (p ∷ os) =
-    other-append g (cleared n ps (InBin RETURNS) p.order k.lot) (lot_returned n os ps k) (other_lot g n k.lot (Stage p.order) (InBin RETURNS) (balance (is_stage p.order) (is_lot k.lot) ps) e) (other_returned_lot g n ps k e os)
 
 -- no lot of the item passes the test
 abbrev NonePasses : List ℕ → (KnownLot → Bool) → List KnownLot → Type 0
@@ -56,13 +32,9 @@ other_returned g n ps os test (k ∷ ks) h =
     elim (test k) as (λ b. test k ≡ b → AllOther g (returned n (if b then k ∷ filter test ks else filter test ks) os ps)) [
       | true ↦ λ e.
           let other : of_item g k.lot ≡ false = elim (of_item g k.lot) as (λ b. of_item g k.lot ≡ b → b ≡ false) [ true ↦ λ t. let f = h.0 t in cc | false ↦ λ t. refl ] refl in
-          other-append g (lot_returned n os ps k) (returned n (filter test ks) os ps) (other_returned_lot g n ps k other os) (other_returned g n ps os test ks h.1)
+          each-append (IsOther g) (lot_returned n os ps k) (returned n (filter test ks) os ps) (each_lot_returned (IsOther g) n ps k (λ o f. other) os) (other_returned g n ps os test ks h.1)
       | false ↦ λ e. other_returned g n ps os test ks h.1
     ] refl
-
-none_pass_by : (g : List ℕ) (test : KnownLot → Bool) → ((k : KnownLot) → of_item g k.lot ≡ true → test k ≡ false) → (ks : List KnownLot) → NonePasses g test ks
-none_pass_by g test h [] = tt
-none_pass_by g test h (k ∷ ks) = (h k, none_pass_by g test h ks)
 
 none_pass_of : (g : List ℕ) (test : KnownLot → Bool) (ks : List KnownLot) → list_any test (filter (λ k. of_item g k.lot) ks) ≡ false → NonePasses g test ks
 none_pass_of g test [] e = tt
@@ -81,6 +53,17 @@ NoneDiffers g f h (k ∷ ks) = (of_item g k.lot ≡ true → f k ≡ h k) × Non
 none_differs_by : (g : List ℕ) (f h : KnownLot → Bool) → ((k : KnownLot) → of_item g k.lot ≡ true → f k ≡ h k) → (ks : List KnownLot) → NoneDiffers g f h ks
 none_differs_by g f h e [] = tt
 none_differs_by g f h e (k ∷ ks) = (e k, none_differs_by g f h e ks)
+
+never_made : (a b : Bool) → a ≡ b → b && not a ≡ false
+never_made true true e = refl
+never_made true false e = refl
+never_made false true e = cc
+never_made false false e = refl
+
+-- then no lot of it is lost
+none_lost : (g : List ℕ) (f h : KnownLot → Bool) (ks : List KnownLot) → NoneDiffers g f h ks → NonePasses g (λ k. h k && not (f k)) ks
+none_lost g f h [] e = tt
+none_lost g f h (k ∷ ks) e = (λ t. never_made (f k) (h k) (e.0 t), none_lost g f h ks e.1)
 
 same_kept : (g : List ℕ) (f h : KnownLot → Bool) (ks : List KnownLot) → NoneDiffers g f h ks → filter f (filter (λ k. of_item g k.lot) ks) ≡ filter h (filter (λ k. of_item g k.lot) ks)
 same_kept g f h [] e = refl
@@ -120,14 +103,6 @@ module _ (first : ℤ) (key : Key) (before : List Act) (g : List ℕ) where
         supplies = s ∙ (λ i. map (supply_of before (own i)) (in_order goes_before (filter (is_shippable first before) (lots_of before g))));
       }
 
-  other_shipped : IsHistory first before → (o : List ℕ) → has_line before o g ≡ false → (s : ℕ) (ks : List KnownLot) → AllOther g (shipped_off (next_number before) s o ks old)
-  other_shipped history o none s [] = tt
-  other_shipped history o none s (k ∷ ks) =
-      other-append g (cleared (next_number before) old (Shipped s o) o k.lot) (shipped_off (next_number before) s o ks old)
-      (other_posting g (next_number before) k.lot (Stage o) (Shipped s o) (balance (is_stage o) (is_lot k.lot) old)
-      (λ e. ap (λ n. n == 0) (unknown_line_is_unstaged first before history o k.lot (ap (λ (x : List ℕ). has_line before o x) (sym (same_text_is g k.lot.gtin e)) ∙ none))))
-      (other_shipped history o none s ks)
-
   -- Holds, releases, recalls and days
 
   other_of : (l m : LotId) → of_item g l ≡ false → of_item g m ≡ true → is_lot m l ≡ false
@@ -136,12 +111,6 @@ module _ (first : ℤ) (key : Key) (before : List Act) (g : List ℕ) where
         | true ↦ λ t. let h : true ≡ false = sym f ∙ ap (λ (x : LotId). of_item g x) (is_lot_is m l t) ∙ e in cc
         | false ↦ λ t. refl
       ] refl
-
-  never_made : (a b : Bool) → a ≡ b → b && not a ≡ false
-  never_made true true e = refl
-  never_made true false e = refl
-  never_made false true e = cc
-  never_made false false e = refl
 
   held_same : (l : LotId) → of_item g l ≡ false → (k : KnownLot) → of_item g k.lot ≡ true → is_shippable first (done (Hold l) ∷ before) k ≡ is_shippable first before k
   held_same l e k f =
@@ -230,10 +199,7 @@ module _ (first : ℤ) (key : Key) (before : List Act) (g : List ℕ) where
         | true ↦ λ t. let f : true ≡ false = sym k ∙ ap (λ (x : List ℕ). has_bin before x) (same_text_is c b.bin t) ∙ new in cc
         | false ↦ λ t. refl
       ] refl
-  in_store_same b new Supplier l k = refl
-  in_store_same b new WriteOff l k = refl
-  in_store_same b new (Stage o) l k = refl
-  in_store_same b new (Shipped n o) l k = refl
+  in_store_same b new _ l k = refl
 
   store_in_same : (b : NewBin) → has_bin before b.bin ≡ false → (l : LotId) (ps : List Posting) → AllKnown first before ps
       → units_in (in_store (done (Bin b) ∷ before)) (is_lot l) ps ≡ units_in (in_store before) (is_lot l) ps
@@ -254,35 +220,45 @@ module _ (first : ℤ) (key : Key) (before : List Act) (g : List ℕ) where
 
   -- Each command
 
-  same_after : (c : Command) → IsHistory first before → verdict first before c ≡ None → touches first (done c) before c g ≡ false → IsSame c
-  same_after (Item i) h ok e = same_by (Item i) tt refl refl
-  same_after (Bin b) h ok e =
-      let known = known_of_item old (known_postings first before h) in
-      let new = (bin_accepted first before b ok).new in
-      let ps = item_postings first before g in
-      same_by (Bin b) tt refl
-      (λ i. map (λ k. record { lot = k.came; avail = store_in_same b new k.lot ps known i - store_out_same b new k.lot ps known i }) (in_order goes_before (filter (is_shippable first before) (lots_of before g))))
-  same_after (Receive r) h ok e =
-      same_by (Receive r) (other_lot g (next_number before) r.lot Supplier (InBin r.bin) r.qty e) refl
-      (λ i. map (supply_of before (item_postings first (done (Receive r) ∷ before) g)) (in_order goes_before (filter (is_shippable first before) (lots_received r e i))))
-  same_after (Move m) h ok e = same_by (Move m) (other_lot g (next_number before) m.lot (InBin m.from) (InBin m.to) m.qty e) refl refl
-  same_after (Count c) h ok e =
-      let have = balance (is_bin c.bin) (is_lot c.lot) old in
-      same_by (Count c)
-      (other-append g (posting (next_number before) c.lot WriteOff (InBin c.bin) (c.qty - have)) (posting (next_number before) c.lot (InBin c.bin) WriteOff (have - c.qty))
-      (other_lot g (next_number before) c.lot WriteOff (InBin c.bin) (c.qty - have) e) (other_lot g (next_number before) c.lot (InBin c.bin) WriteOff (have - c.qty) e)) refl refl
-  same_after (Adjust a) h ok e = same_by (Adjust a) (other_written g (next_number before) a.lot a.bin a.change e) refl refl
-  same_after (Order o) h ok e =
+  -- the lots of the item are as shippable as they were
+  ships_same : (c : Command) → verdict first before c ≡ None → touches first (done c) before c g ≡ false → NoneDiffers g (is_shippable first (done c ∷ before)) (is_shippable first before) (lots before)
+  ships_same (Hold l) ok e = none_differs_by g _ _ (held_same l e) (lots before)
+  ships_same (Release l) ok e = none_differs_by g _ _ (released_same l e) (lots before)
+  ships_same (Recall l) ok e = none_differs_by g _ _ (recalled_same l e) (lots before)
+  ships_same (Least l) ok e = none_differs_by g _ _ (asked_same l e) (lots before)
+  ships_same (OpenDay day) ok e =
+      let none = none_pass_of g (λ k. is_shippable first before k && not (is_shippable first (done (OpenDay day) ∷ before) k)) (lots before) (or_none _ _ e).0 in
+      day_same day (day_accepted first before day ok) (lots before) none
+  ships_same c ok e = none_differs_by g _ _ (λ k f. refl) (lots before)
+
+  -- its postings are of other items
+  others_shown : (c : Command) → IsHistory first before → touches first (done c) before c g ≡ false → NoneDiffers g (is_shippable first (done c ∷ before)) (is_shippable first before) (lots before)
+      → (n : Entry) → Facts first (done c) before n → Shown (IsOther g) first (done c) before old n
+  others_shown c h e same Nothing f = tt
+  others_shown c h e same (One l from to q) f = λ some. sym (f.own g) ∙ e
+  others_shown c h e same (Corrected l b found) f = (λ some. sym (f.own g) ∙ e, λ some. sym (f.own g) ∙ e)
+  others_shown c h e same (ShippedOff o) f = λ l some. elim (of_item g l) as (λ b. of_item g l ≡ b → b ≡ false) [
+    | true ↦ λ t.
+        let line : has_line before o l.gtin ≡ false = ap (λ (x : List ℕ). has_line before o x) (sym (same_text_is g l.gtin t)) ∙ sym (f.own g) ∙ e in
+        sym (ap (λ n. n == 0) (unknown_line_is_unstaged first before h o l line)) ∙ some
+    | false ↦ λ t. refl
+  ] refl
+  others_shown c h e same Returned f = other_returned g (next_number before) old (orders before) _ (lots before) (none_lost g _ _ (lots before) same)
+
+  others_posted : (c : Command) → IsHistory first before → verdict first before c ≡ None → touches first (done c) before c g ≡ false → AllOther g (posted first (done c) before old c)
+  others_posted c h ok e =
+      subst (AllOther g) (entry_posted first (done c) before old c)
+      (each_of_entry (IsOther g) first (done c) before old (entry_of c) (others_shown c h e (ships_same c ok e) (entry_of c) (facts_of first key before c ok)))
+
+  -- its demands and supplies are those of the same bookings and lots
+  demands_after : (c : Command) → IsHistory first before → touches first (done c) before c g ≡ false → demands first (done c ∷ before) g ≡ map (demand_of before (item_postings first (done c ∷ before) g)) (bookings before g)
+  demands_after (Order o) h e =
       let new : Placed = record { order = o.order; act = next_number before; customer = o.customer; lines = o.lines; urgent = false } in
-      same_by (Order o) tt
-      (λ i. map (demand_of before (item_postings first before g)) (reverse (flat_map (lines_of_item g) (filter is_urgent (orders before))) ++ reverse (map (booking_of new) (no_line o.lines e i) ++ flat_map (lines_of_item g) (filter is_normal (orders before)))))
-      refl
-  same_after (Urgent o) h ok e =
+      λ i. map (demand_of before (item_postings first before g)) (reverse (flat_map (lines_of_item g) (filter is_urgent (orders before))) ++ reverse (map (booking_of new) (no_line o.lines e i) ++ flat_map (lines_of_item g) (filter is_normal (orders before))))
+  demands_after (Urgent o) h e =
       let new : Placed = record { order = o.order; act = next_number before; customer = o.customer; lines = o.lines; urgent = true } in
-      same_by (Urgent o) tt
-      (λ i. map (demand_of before (item_postings first before g)) (reverse (map (booking_of new) (no_line o.lines e i) ++ flat_map (lines_of_item g) (filter is_urgent (orders before))) ++ reverse (flat_map (lines_of_item g) (filter is_normal (orders before)))))
-      refl
-  same_after (Cancel o) h ok e =
+      λ i. map (demand_of before (item_postings first before g)) (reverse (map (booking_of new) (no_line o.lines e i) ++ flat_map (lines_of_item g) (filter is_urgent (orders before))) ++ reverse (flat_map (lines_of_item g) (filter is_normal (orders before))))
+  demands_after (Cancel o) h e =
       let ps = item_postings first before g in
       let f = demand_of (done (Cancel o) ∷ before) ps in
       let k = demand_of before ps in
@@ -291,35 +267,23 @@ module _ (first : ℤ) (key : Key) (before : List Act) (g : List ℕ) where
       let all = orders_found first before h in
       let same_ones = map_reversed f k ones (cancelled_same o e ps (filter is_urgent (orders before)) (found_kept same_order is_urgent (orders before) (orders before) all)) in
       let same_others = map_reversed f k others (cancelled_same o e ps (filter is_normal (orders before)) (found_kept same_order is_normal (orders before) (orders before) all)) in
-      same_by (Cancel o) tt
-      (map_appended f (reverse ones) (reverse others) ∙ (λ i. same_ones i ++ same_others i) ∙ sym (map_appended k (reverse ones) (reverse others)))
-      refl
-  same_after (Pick p) h ok e = same_by (Pick p) (other_lot g (next_number before) p.lot (InBin p.bin) (Stage p.order) p.qty e) refl refl
-  same_after (Unpick p) h ok e = same_by (Unpick p) (other_lot g (next_number before) p.lot (Stage p.order) (InBin p.bin) p.qty e) refl refl
-  same_after (Ship o) h ok e = same_by (Ship o) (other_shipped h o e (shipments_so_far first before + 1) (lots before)) refl refl
-  same_after (Hold l) h ok e =
-      same_by (Hold l)
-      (other_returned g (next_number before) old (orders before) _ (lots before) (none_pass_by g _ (λ k f. never_made _ _ (held_same l e k f)) (lots before)))
-      refl
-      (λ i. map (supply_of before (item_postings first (done (Hold l) ∷ before) g)) (in_order goes_before (same_kept g _ _ (lots before) (none_differs_by g (is_shippable first (done (Hold l) ∷ before)) (is_shippable first before) (held_same l e) (lots before)) i)))
-  same_after (Release l) h ok e =
-      same_by (Release l) tt refl
-      (λ i. map (supply_of before (item_postings first before g)) (in_order goes_before (same_kept g _ _ (lots before) (none_differs_by g (is_shippable first (done (Release l) ∷ before)) (is_shippable first before) (released_same l e) (lots before)) i)))
-  same_after (Recall l) h ok e =
-      same_by (Recall l)
-      (other_returned g (next_number before) old (orders before) _ (lots before) (none_pass_by g _ (λ k f. never_made _ _ (recalled_same l e k f)) (lots before)))
-      refl
-      (λ i. map (supply_of before (item_postings first (done (Recall l) ∷ before) g)) (in_order goes_before (same_kept g _ _ (lots before) (none_differs_by g (is_shippable first (done (Recall l) ∷ before)) (is_shippable first before) (recalled_same l e) (lots before)) i)))
-  same_after (OpenDay day) h ok e =
-      let two = or_none _ _ e in
-      let none = none_pass_of g (λ k. is_shippable first before k && not (is_shippable first (done (OpenDay day) ∷ before) k)) (lots before) two.0 in
-      same_by (OpenDay day) (other_returned g (next_number before) old (orders before) _ (lots before) none) refl
-      (λ i. map (supply_of before (item_postings first (done (OpenDay day) ∷ before) g)) (in_order goes_before (same_kept g _ _ (lots before) (day_same day (day_accepted first before day ok) (lots before) none) i)))
-  same_after (Least l) h ok e =
-      same_by (Least l)
-      (other_returned g (next_number before) old (orders before) _ (lots before) (none_pass_by g _ (λ k f. never_made _ _ (asked_same l e k f)) (lots before)))
-      refl
-      (λ i. map (supply_of before (item_postings first (done (Least l) ∷ before) g)) (in_order goes_before (same_kept g _ _ (lots before) (none_differs_by g (is_shippable first (done (Least l) ∷ before)) (is_shippable first before) (asked_same l e) (lots before)) i)))
+      map_appended f (reverse ones) (reverse others) ∙ (λ i. same_ones i ++ same_others i) ∙ sym (map_appended k (reverse ones) (reverse others))
+  demands_after c h e = refl
+
+  supplies_after : (c : Command) → IsHistory first before → verdict first before c ≡ None → touches first (done c) before c g ≡ false
+      → supplies first (done c ∷ before) g ≡ map (supply_of before (item_postings first (done c ∷ before) g)) (in_order goes_before (filter (is_shippable first before) (lots_of before g)))
+  supplies_after (Bin b) h ok e =
+      let known = known_of_item old (known_postings first before h) in
+      let new = (bin_accepted first before b ok).new in
+      let ps = item_postings first before g in
+      λ i. map (λ k. record { lot = k.came; avail = store_in_same b new k.lot ps known i - store_out_same b new k.lot ps known i }) (in_order goes_before (filter (is_shippable first before) (lots_of before g)))
+  supplies_after (Receive r) h ok e =
+      λ i. map (supply_of before (item_postings first (done (Receive r) ∷ before) g)) (in_order goes_before (filter (is_shippable first before) (lots_received r e i)))
+  supplies_after c h ok e =
+      λ i. map (supply_of before (item_postings first (done c ∷ before) g)) (in_order goes_before (same_kept g _ _ (lots before) (ships_same c ok e) i))
+
+  same_after : (c : Command) → IsHistory first before → verdict first before c ≡ None → touches first (done c) before c g ≡ false → IsSame c
+  same_after c h ok e = same_by c (others_posted c h ok e) (demands_after c h e) (supplies_after c h ok e)
 
   plan_same : (c : Command) → IsSame c → plan first (done c ∷ before) g ≡ plan first before g
   plan_same c s = λ i. plan_rows (s.demands i) (s.supplies i)
@@ -383,20 +347,7 @@ module _ (first : ℤ) (key : Key) (before : List Act) (g : List ℕ) where
         by_plan (Receive r) s ∙ ap (λ k. reserved_of (order_named before o) k (plan first before l.gtin)) (known_same r (other_of r.lot l e (ap (same_text g) (sym item) ∙ same_text_refl g)))
     reserved_after (Order n) h ok e s = new_order n ok e s
     reserved_after (Urgent n) h ok e s = new_urgent n ok e s
-    reserved_after (Item i) h ok e s = by_plan (Item i) s
-    reserved_after (Bin b) h ok e s = by_plan (Bin b) s
-    reserved_after (Move m) h ok e s = by_plan (Move m) s
-    reserved_after (Count c) h ok e s = by_plan (Count c) s
-    reserved_after (Adjust a) h ok e s = by_plan (Adjust a) s
-    reserved_after (Cancel u) h ok e s = by_plan (Cancel u) s
-    reserved_after (Pick p) h ok e s = by_plan (Pick p) s
-    reserved_after (Unpick p) h ok e s = by_plan (Unpick p) s
-    reserved_after (Ship u) h ok e s = by_plan (Ship u) s
-    reserved_after (Hold m) h ok e s = by_plan (Hold m) s
-    reserved_after (Release m) h ok e s = by_plan (Release m) s
-    reserved_after (Recall m) h ok e s = by_plan (Recall m) s
-    reserved_after (OpenDay d) h ok e s = by_plan (OpenDay d) s
-    reserved_after (Least m) h ok e s = by_plan (Least m) s
+    reserved_after c h ok e s = by_plan c s
 
 pub other_items_are_left_alone : OtherItemsAreLeftAlone
 other_items_are_left_alone first act before g h e =

@@ -1,5 +1,5 @@
 -- A pick takes its units from its own reservation and from no other.
-use Rattle.machine.proofs.Words.{◌≡◌, ℕ, ◌+◌, ◌-◌, ◌≤◌, Bool, true, false, ◌&&◌, List, [], ◌∷◌, ◌++◌, refl, ap, sym, subst, ◌∙◌, arith, eq-eqb, ◌==◌, ◌||◌, if◌then◌else◌, ℤ, Option, Some, None, is_some, filter, map, reverse, flat_map, nat_eq, list_any, eqb-true, reverse-append, same_text, is_name, is_qty, LotId, placed, in_order, is_lot_id, Key, OrderLine, Picking, Pick, Demand, Supply, AreBookingsDistinct, AreLotsDistinct, plan_rows, reserved_in, need_lowered, avail_lowered, lowering_disturbs_none, Act, next_number, Place, Supplier, InBin, Stage, Shipped, WriteOff, Posting, balance, is_stage, is_shipped_to, is_lot, of_item, KnownLot, Placed, lots, lots_of, lot_known, is_shippable, orders, order_named, is_cancelled, postings, is_urgent, is_normal, Booking, booking_of, lines_of_item, bookings, need, demand_of, demands, supply_of, supplies, shippable_lots, goes_before, item_postings, staged, shipped, in_store, store_units, plan, reserved, reserved_of, IsHistory, PickDisturbsNone}
+use Rattle.machine.proofs.Words.{◌≡◌, ℕ, ◌+◌, ◌-◌, ◌≤◌, Bool, true, false, ◌&&◌, List, [], ◌∷◌, ◌++◌, refl, ap, sym, subst, ◌∙◌, arith, eq-eqb, ◌==◌, ◌||◌, if◌then◌else◌, ℤ, Option, Some, None, is_some, filter, map, reverse, flat_map, nat_eq, list_any, eqb-true, reverse-append, same_text, is_name, is_qty, LotId, placed, in_order, is_lot_id, Key, OrderLine, Picking, Pick, Demand, Supply, AreBookingsDistinct, AreLotsDistinct, plan_rows, reserved_in, need_lowered, avail_lowered, lowering_disturbs_none, Act, next_number, Place, InBin, Stage, Posting, balance, is_stage, is_shipped_to, is_lot, of_item, KnownLot, Placed, lots, lots_of, lot_known, is_shippable, orders, order_named, is_cancelled, postings, is_urgent, is_normal, Booking, booking_of, lines_of_item, bookings, need, demand_of, demands, supply_of, supplies, shippable_lots, goes_before, item_postings, staged, shipped, in_store, store_units, plan, reserved, reserved_of, IsHistory, PickDisturbsNone}
 use Rattle.machine.proofs.Tests.{same_text_is, same_text_refl, same_text_turned, is_lot_is, is_lot_refl, is_lot_item, same_tests, some_one, and_both}
 use Rattle.machine.proofs.Apart.{AllFound, AreApart, distinct_names, found_kept}
 use Rattle.machine.proofs.histories.Quantities.{at_least_one}
@@ -174,10 +174,7 @@ module _ (first : ℤ) (before : List Act) (key : Key) (p : Picking) (next : IsH
 
   same_places : (x : Place) → in_store after x ≡ in_store before x
   same_places (InBin b) = refl
-  same_places (Stage o) = refl
-  same_places Supplier = refl
-  same_places WriteOff = refl
-  same_places (Shipped n o) = refl
+  same_places _ = refl
 
   store_before : (l : LotId) → of_item g l ≡ true → store_units before old l ≡ store_units after new l + (if is_lot l p.lot then p.qty else 0)
   store_before l own =

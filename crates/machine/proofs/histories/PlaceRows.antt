@@ -1,5 +1,5 @@
 -- Rows of bins, or of stages, add up to what their cells hold.
-use Rattle.machine.proofs.Words.{◌≡◌, ℕ, Bool, true, false, ◌&&◌, not, List, [], ◌∷◌, refl, ap, sym, subst, ◌∙◌, ◌==◌, if◌then◌else◌, find, Some, None, ℤ, list_any, same_text, LotId, total, StockRow, StagedRow, Act, Place, Supplier, InBin, Stage, Shipped, WriteOff, Posting, is_lot, postings, in_bin, staged_of_lot, if_any, stock_row, staged_row, AreRows, AreOwn, LotBin, OrderLot, no_two, same_cell, same_share}
+use Rattle.machine.proofs.Words.{◌≡◌, ℕ, Bool, true, false, ◌&&◌, not, List, [], ◌∷◌, refl, ap, sym, subst, ◌∙◌, ◌==◌, if◌then◌else◌, find, Some, None, ℤ, list_any, same_text, LotId, total, StockRow, StagedRow, Act, Place, InBin, Stage, Posting, is_lot, postings, in_bin, staged_of_lot, if_any, stock_row, staged_row, AreRows, AreOwn, LotBin, OrderLot, no_two, same_cell, same_share}
 use Rattle.machine.proofs.Tests.{and_both, or_none, not_true, is_zero, same_text_is, same_text_refl, is_lot_is, is_lot_refl}
 use Rattle.machine.proofs.histories.Cells.{Cells, Inner, Legal, holds}
 use Rattle.machine.proofs.histories.RowSums.{IsHoused, AllIn, AllApart, AreApart, AreHeld, AreEmpty, NotThere, IsLeft, cell_at, cut_out, rows_are_all, left_of}
@@ -99,17 +99,11 @@ stage_cells pick _ l = false
 module _ (first : ℤ) (acts : List Act) (legal : Legal (postings first acts)) (pick : LotId → List ℕ → Bool) where
   bins_placed : (p : Place) (l : LotId) → bin_cells pick p l ≡ true → (b : List ℕ) × (p ≡ InBin b)
   bins_placed (InBin b) l e = (b, refl)
-  bins_placed Supplier l e = let f : false ≡ true = e in cc
-  bins_placed WriteOff l e = let f : false ≡ true = e in cc
-  bins_placed (Stage o) l e = let f : false ≡ true = e in cc
-  bins_placed (Shipped n o) l e = let f : false ≡ true = e in cc
+  bins_placed _ l e = let f : false ≡ true = e in cc
 
   stages_placed : (p : Place) (l : LotId) → stage_cells pick p l ≡ true → (o : List ℕ) × (p ≡ Stage o)
   stages_placed (Stage o) l e = (o, refl)
-  stages_placed Supplier l e = let f : false ≡ true = e in cc
-  stages_placed WriteOff l e = let f : false ≡ true = e in cc
-  stages_placed (InBin b) l e = let f : false ≡ true = e in cc
-  stages_placed (Shipped n o) l e = let f : false ≡ true = e in cc
+  stages_placed _ l e = let f : false ≡ true = e in cc
 
   module _ (needed allowed : LotBin → Bool) (rows : List StockRow) (are : AreRows same_cell (λ r. (r.lot, r.bin)) needed allowed (λ k. stock_row first acts k.0 k.1) rows)
       (in_need : (l : LotId) (b : List ℕ) → pick l b ≡ true → needed (l, b) ≡ true) where

@@ -10,9 +10,7 @@ no_cell p m = false
 abbrev pub cell_at : Place → LotId → Cells
 cell_at (InBin b) l = bin_cell b l
 cell_at (Stage o) l = stage_cell o l
-cell_at Supplier l = no_cell
-cell_at WriteOff l = no_cell
-cell_at (Shipped n o) l = no_cell
+cell_at _ l = no_cell
 
 no_part : (w : Cells) → IsPart no_cell w
 no_part w p m e = let f : false ≡ true = e in cc
@@ -20,16 +18,12 @@ no_part w p m e = let f : false ≡ true = e in cc
 part_at : (w : Cells) (p : Place) (l : LotId) → w p l ≡ true → IsPart (cell_at p l) w
 part_at w (InBin b) l e = bin_part w b l e
 part_at w (Stage o) l e = stage_part w o l e
-part_at w Supplier l e = no_part w
-part_at w WriteOff l e = no_part w
-part_at w (Shipped n o) l e = no_part w
+part_at w _ l e = no_part w
 
 inner_at : (p : Place) (l : LotId) → Inner (cell_at p l)
 inner_at (InBin b) l = inner_bin b l
 inner_at (Stage o) l = inner_stage o l
-inner_at Supplier l = record { supplier = λ m. refl; write_off = λ m. refl }
-inner_at WriteOff l = record { supplier = λ m. refl; write_off = λ m. refl }
-inner_at (Shipped n o) l = record { supplier = λ m. refl; write_off = λ m. refl }
+inner_at _ l = record { supplier = λ m. refl; write_off = λ m. refl }
 
 -- no shipment is among the cells
 abbrev pub IsHoused : Cells → Type 0

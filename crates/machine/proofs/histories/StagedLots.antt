@@ -1,5 +1,5 @@
 -- On a history a staged lot is shippable, and so is a lot that is shipped.
-use Rattle.machine.proofs.Words.{◌≡◌, ℕ, ◌+◌, ◌-◌, ◌≤◌, Bool, true, false, ◌&&◌, not, List, [], ◌∷◌, ◌++◌, refl, ap, sym, ◌∙◌, arith, ◌==◌, if◌then◌else◌, find, filter, flat_map, Option, Some, None, is_some, ℤ, eqb-true, same_text, LotId, total, Key, Receipt, Command, Item, Bin, Receive, Move, Count, Adjust, Order, Cancel, Pick, Unpick, Ship, Hold, Release, Recall, OpenDay, Least, Urgent, Act, gathered, next_number, Place, InBin, Stage, Shipped, Posting, balance, is_stage, is_lot, KnownLot, Placed, RETURNS, lots, lot_among, lot_known, with_receipt, hold_in, says_held, is_held, is_recalled, is_expired, least_days, least_expiry, today, is_shippable, orders, order_named, shipments_so_far, posting, cleared, shipped_off, lot_returned, returned, made_unshippable, posted, postings, staged_of_lot, verdict, is_past, is_below, IsHistory, IsShippableLot, StagedLotsAreShippable, ShippedLotsAreShippable}
+use Rattle.machine.proofs.Words.{◌≡◌, ℕ, ◌+◌, ◌-◌, ◌≤◌, Bool, true, false, ◌&&◌, not, List, [], ◌∷◌, ◌++◌, refl, ap, sym, ◌∙◌, arith, ◌==◌, if◌then◌else◌, find, filter, flat_map, Option, Some, None, is_some, ℤ, eqb-true, same_text, LotId, total, Key, Receipt, Command, Receive, Pick, Hold, Release, Recall, OpenDay, Least, Act, gathered, next_number, Place, InBin, Stage, Shipped, Posting, balance, is_stage, is_lot, KnownLot, Placed, RETURNS, lots, lot_among, lot_known, with_receipt, hold_in, says_held, is_held, is_recalled, is_expired, least_days, least_expiry, today, is_shippable, orders, order_named, shipments_so_far, posting, cleared, shipped_off, lot_returned, returned, made_unshippable, posted, postings, staged_of_lot, verdict, is_past, is_below, IsHistory, IsShippableLot, StagedLotsAreShippable, ShippedLotsAreShippable}
 use Rattle.machine.proofs.Tests.{same_text_refl, is_lot_refl, is_lot_is}
 use Rattle.machine.proofs.histories.Accepted.{pick_accepted}
 use Rattle.machine.proofs.histories.Cells.{Cells, into, out_of, into-append, out_of-append, holds, stage_cell}
@@ -210,16 +210,7 @@ module _ (first : ℤ) (key : Key) (before : List Act) (history : IsHistory firs
   unstaged_after (Recall m) ok e = returned_is_empty first (done (Recall m)) before history o l h e
   unstaged_after (OpenDay d) ok e = returned_is_empty first (done (OpenDay d)) before history o l h e
   unstaged_after (Least m) ok e = returned_is_empty first (done (Least m)) before history o l h e
-  unstaged_after (Move m) ok e = still (Move m) refl (h e)
-  unstaged_after (Count c) ok e = still (Count c) refl (h e)
-  unstaged_after (Adjust a) ok e = still (Adjust a) refl (h e)
-  unstaged_after (Unpick p) ok e = still (Unpick p) refl (h e)
-  unstaged_after (Ship u) ok e = still (Ship u) refl (h e)
-  unstaged_after (Item i) ok e = still (Item i) refl (h e)
-  unstaged_after (Bin b) ok e = still (Bin b) refl (h e)
-  unstaged_after (Order n) ok e = still (Order n) refl (h e)
-  unstaged_after (Urgent n) ok e = still (Urgent n) refl (h e)
-  unstaged_after (Cancel u) ok e = still (Cancel u) refl (h e)
+  unstaged_after c ok e = still c refl (h e)
 
 -- what may not be shipped is not staged
 pub unshippable_is_unstaged : (first : ℤ) (acts : List Act) → IsHistory first acts → (o : List ℕ) (l : LotId) → may_ship first acts l ≡ false → staged_of_lot first acts o l ≡ 0

@@ -1,8 +1,8 @@
 -- On a history no item has more units in the house than the limit.
-use Rattle.machine.proofs.Words.{◌≡◌, ℕ, suc, ◌+◌, ◌-◌, ◌≤◌, Bool, true, false, ◌&&◌, List, [], ◌∷◌, ◌++◌, refl, ap, sym, ◌∙◌, arith, lit≤, ◌==◌, if◌then◌else◌, ℤ, pos, negsuc, None, LotId, UNITS_MAX, Key, Command, Item, Bin, Receive, Move, Count, Adjust, Order, Cancel, Pick, Unpick, Ship, Hold, Release, Recall, OpenDay, Least, Urgent, Act, next_number, Place, Supplier, InBin, Stage, Shipped, WriteOff, Posting, balance, is_stage, is_lot, of_item, in_house, KnownLot, Placed, RETURNS, lots, orders, shipments_so_far, posting, correction, written, cleared, shipped_off, lot_returned, returned, made_unshippable, posted, postings, in_bin, units_in_house, verdict, taken_off, put_on, IsHistory}
+use Rattle.machine.proofs.Words.{◌≡◌, ℕ, ◌+◌, ◌-◌, ◌≤◌, Bool, true, false, ◌&&◌, List, [], ◌∷◌, ◌++◌, refl, ap, sym, subst, ◌∙◌, arith, lit≤, ◌==◌, if◌then◌else◌, ℤ, None, LotId, UNITS_MAX, Act, next_number, Place, InBin, Stage, Shipped, WriteOff, Posting, balance, is_stage, is_lot, of_item, in_house, KnownLot, Placed, RETURNS, lots, orders, shipments_so_far, posting, correction, cleared, shipped_off, lot_returned, returned, made_unshippable, postings, postings_of, in_bin, units_in_house, verdict, IsHistory}
 use Rattle.machine.proofs.Numbers.{nothing_if}
 use Rattle.machine.proofs.Tests.{same_text_is, is_zero}
-use Rattle.machine.proofs.histories.Accepted.{receive_accepted, count_accepted, adjust_accepted}
+use Rattle.machine.proofs.histories.ActFacts.{Entry, Nothing, One, Corrected, ShippedOff, Returned, entry_of, entry_postings, entry_posted, Facts, facts_of}
 use Rattle.machine.proofs.histories.Cells.{Cells, into, out_of, into-append, out_of-append, holds, never_overdrawn}
 use Rattle.machine.proofs.histories.LegalHistories.{legal_history}
 
@@ -62,18 +62,12 @@ module _ (g : List ℕ) where
         shipped_leaves n s o ks ps,
       )
 
-  module _ (first : ℤ) (key : Key) (before : List Act) (history : IsHistory first before) (h : units_in_house first before g ≤ UNITS_MAX) where
+  module _ (first : ℤ) (before : List Act) (history : IsHistory first before) (h : units_in_house first before g ≤ UNITS_MAX) where
     abbrev ps : List Posting
     ps = postings first before
 
     abbrev n : ℕ
     n = next_number before
-
-    moved : (l : LotId) (from to : Place) (q : ℕ) → in_house from ≡ true → in_house to ≡ true → holds house (posting n l from to q ++ ps) ≤ UNITS_MAX
-    moved l from to q e f =
-        let i : into house (posting n l from to q) ≡ (if of_item g l then q else 0) = into_posting n l from to q ∙ ap (λ b. if b && of_item g l then q else 0) f in
-        let o : out_of house (posting n l from to q) ≡ (if of_item g l then q else 0) = out_of_posting n l from to q ∙ ap (λ b. if b && of_item g l then q else 0) e in
-        omega (arith, h, i, o, into-append house (posting n l from to q) ps, out_of-append house (posting n l from to q) ps)
 
     -- where the units of the lot's own item would stay within the limit
     by_lot : (l : LotId) (a b : ℕ) → units_in_house first before l.gtin + a ≤ UNITS_MAX + b → into house ps + (if of_item g l then a else 0) - (out_of house ps + (if of_item g l then b else 0)) ≤ UNITS_MAX
@@ -86,15 +80,20 @@ module _ (g : List ℕ) where
           | false ↦ λ e. omega (arith, h)
         ] refl
 
-    returns_within : (act : Act) → holds house (returned n (made_unshippable first act before) (orders before) ps ++ ps) ≤ UNITS_MAX
-    returns_within act =
-        omega (arith, h, into-append house (returned n (made_unshippable first act before) (orders before) ps) ps, out_of-append house (returned n (made_unshippable first act before) (orders before) ps) ps, returned_stays n (made_unshippable first act before) (orders before) ps)
+    at_most : (b : Bool) (l : LotId) (q : ℕ) → counted b l q ≤ counted true l q
+    at_most true l q = omega arith
+    at_most false l q = omega arith
 
-    written_within : (l : LotId) (b : List ℕ) (z : ℤ) → units_in_house first before l.gtin + put_on z ≤ UNITS_MAX + taken_off z → holds house (written n l b z ++ ps) ≤ UNITS_MAX
-    written_within l b (pos k) fits =
-        omega (arith, nothing_if (of_item g l), by_lot l k 0 fits, into-append house (posting n l WriteOff (InBin b) k) ps, out_of-append house (posting n l WriteOff (InBin b) k) ps, into_posting n l WriteOff (InBin b) k, out_of_posting n l WriteOff (InBin b) k)
-    written_within l b (negsuc k) fits =
-        omega (arith, nothing_if (of_item g l), by_lot l 0 (suc k) fits, into-append house (posting n l (InBin b) WriteOff (suc k)) ps, out_of-append house (posting n l (InBin b) WriteOff (suc k)) ps, into_posting n l (InBin b) WriteOff (suc k), out_of_posting n l (InBin b) WriteOff (suc k))
+    moved_within : (l : LotId) (from to : Place) (q : ℕ) → (in_house from ≡ false → units_in_house first before l.gtin + q ≤ UNITS_MAX + 0) → holds house (posting n l from to q ++ ps) ≤ UNITS_MAX
+    moved_within l from to q fits =
+        elim (in_house from) as (λ b. in_house from ≡ b → holds house (posting n l from to q ++ ps) ≤ UNITS_MAX) [
+          | true ↦ λ e.
+              let out : out_of house (posting n l from to q) ≡ counted true l q = out_of_posting n l from to q ∙ ap (λ b. counted b l q) e in
+              omega (arith, h, out, at_most (in_house to) l q, into_posting n l from to q, into-append house (posting n l from to q) ps, out_of-append house (posting n l from to q) ps)
+          | false ↦ λ e.
+              let out : out_of house (posting n l from to q) ≡ 0 = out_of_posting n l from to q ∙ ap (λ b. counted b l q) e in
+              omega (arith, nothing_if (of_item g l), by_lot l q 0 (fits e), out, at_most (in_house to) l q, into_posting n l from to q, into-append house (posting n l from to q) ps, out_of-append house (posting n l from to q) ps)
+        ] refl
 
     corrected_within : (l : LotId) (b : List ℕ) (have found : ℕ) → units_in_house first before l.gtin + found ≤ UNITS_MAX + have → holds house (correction n l b have found ++ ps) ≤ UNITS_MAX
     corrected_within l b have found fits =
@@ -111,28 +110,19 @@ module _ (g : List ℕ) where
           out_of_posting n l (InBin b) WriteOff (have - found),
         )
 
-    units_after : (c : Command) → verdict first before c ≡ None → holds house (posted first (record { key = key; command = c }) before ps c ++ ps) ≤ UNITS_MAX
-    units_after (Item i) ok = h
-    units_after (Bin b) ok = h
-    units_after (Order o) ok = h
-    units_after (Urgent o) ok = h
-    units_after (Cancel o) ok = h
-    units_after (Release l) ok = h
-    units_after (Receive r) ok =
-        let fits = (receive_accepted first before r ok).fits in
-        omega (arith, nothing_if (of_item g r.lot), by_lot r.lot r.qty 0 fits, into-append house (posting n r.lot Supplier (InBin r.bin) r.qty) ps, out_of-append house (posting n r.lot Supplier (InBin r.bin) r.qty) ps, into_posting n r.lot Supplier (InBin r.bin) r.qty, out_of_posting n r.lot Supplier (InBin r.bin) r.qty)
-    units_after (Move m) ok = moved m.lot (InBin m.from) (InBin m.to) m.qty refl refl
-    units_after (Count c) ok = corrected_within c.lot c.bin (in_bin first before c.bin c.lot) c.qty (count_accepted first before c ok).fits
-    units_after (Adjust a) ok = written_within a.lot a.bin a.change (adjust_accepted first before a ok).fits
-    units_after (Pick p) ok = moved p.lot (InBin p.bin) (Stage p.order) p.qty refl refl
-    units_after (Unpick p) ok = moved p.lot (Stage p.order) (InBin p.bin) p.qty refl refl
-    units_after (Ship o) ok =
+    units_by : (act : Act) (e : Entry) → Facts first act before e → holds house (entry_postings first act before ps e ++ ps) ≤ UNITS_MAX
+    units_by act Nothing f = h
+    units_by act (One l from to q) f = moved_within l from to q f.fits
+    units_by act (Corrected l b found) f = corrected_within l b (in_bin first before b l) found f.fits
+    units_by act (ShippedOff o) f =
         omega (arith, h, into-append house (shipped_off n (shipments_so_far first before + 1) o (lots before) ps) ps, out_of-append house (shipped_off n (shipments_so_far first before + 1) o (lots before) ps) ps, shipped_leaves n (shipments_so_far first before + 1) o (lots before) ps)
-    units_after (Hold l) ok = returns_within (record { key = key; command = Hold l })
-    units_after (Recall l) ok = returns_within (record { key = key; command = Recall l })
-    units_after (OpenDay d) ok = returns_within (record { key = key; command = OpenDay d })
-    units_after (Least l) ok = returns_within (record { key = key; command = Least l })
+    units_by act Returned f =
+        omega (arith, h, into-append house (returned n (made_unshippable first act before) (orders before) ps) ps, out_of-append house (returned n (made_unshippable first act before) (orders before) ps) ps, returned_stays n (made_unshippable first act before) (orders before) ps)
+
+    units_after : (act : Act) → verdict first before act.command ≡ None → holds house (postings_of first act before ++ ps) ≤ UNITS_MAX
+    units_after act ok =
+        subst (λ qs. holds house (qs ++ ps) ≤ UNITS_MAX) (entry_posted first act before ps act.command) (units_by act (entry_of act.command) (facts_of first act.key before act.command ok))
 
 pub units_within_limit : (first : ℤ) (acts : List Act) → IsHistory first acts → (g : List ℕ) → units_in_house first acts g ≤ UNITS_MAX
 units_within_limit first [] h g = lit≤ tt
-units_within_limit first (act ∷ before) h g = units_after g first act.key before h.0 (units_within_limit first before h.0 g) act.command h.1.passes
+units_within_limit first (act ∷ before) h g = units_after g first before h.0 (units_within_limit first before h.0 g) act h.1.passes

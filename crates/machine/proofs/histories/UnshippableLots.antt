@@ -1,5 +1,5 @@
 -- An act by which one lot stops being shippable: what was staged of it is in the bin RETURNS then, and all else is where it was.
-use Rattle.machine.proofs.Words.{◌≡◌, ℕ, ◌+◌, ◌≤◌, Bool, true, false, ◌&&◌, not, List, ◌∷◌, ◌++◌, refl, ap, sym, subst, ◌∙◌, arith, eq-eqb, ◌==◌, if◌then◌else◌, find, flat_map, option_map, ℤ, list_any, list_all, same_text, LotId, total, Open, Done, Cancelled, CardRow, Act, gathered, next_number, Place, Supplier, InBin, Stage, Shipped, WriteOff, Posting, balance, is_bin, is_lot, is_stage, is_shipped_to, is_shipment, of_item, KnownLot, Placed, RETURNS, bins, lots, is_shippable, orders, lines_placed, has_line, cancel_in, returned, made_unshippable, postings, postings_of, in_bin, staged_of_lot, shipped_of, is_open, is_open_state, cards, card_lines, units_returned, IsHistory, if_any, order_row, line_row, shipline_row, card_row, same_cell}
+use Rattle.machine.proofs.Words.{◌≡◌, ℕ, ◌+◌, ◌≤◌, Bool, true, false, ◌&&◌, not, List, ◌∷◌, ◌++◌, refl, ap, sym, subst, ◌∙◌, arith, eq-eqb, ◌==◌, if◌then◌else◌, find, flat_map, option_map, ℤ, list_any, list_all, same_text, LotId, total, Open, Done, Cancelled, CardRow, Act, gathered, next_number, Place, InBin, Stage, Posting, balance, is_bin, is_lot, is_stage, is_shipped_to, is_shipment, of_item, KnownLot, Placed, RETURNS, bins, lots, is_shippable, orders, lines_placed, has_line, cancel_in, returned, made_unshippable, postings, postings_of, in_bin, staged_of_lot, shipped_of, is_open, is_open_state, cards, card_lines, units_returned, IsHistory, if_any, order_row, line_row, shipline_row, card_row, same_cell}
 use Rattle.machine.proofs.Tests.{is_zero, is_lot_is, is_lot_refl, is_lot_turned, same_text_refl}
 use Rattle.machine.proofs.histories.Cells.{Cells, IsPart, Inner, Legal, without, into, out_of, into-append, out_of-append, holds, holds_split, never_overdrawn}
 use Rattle.machine.proofs.histories.ItemBalances.{balance-of_item}
@@ -46,16 +46,12 @@ module _ (l : LotId) where
   stages_inside : IsPart (stages_of l) both
   stages_inside (Stage o) m e = e
   stages_inside (InBin b) m e = let f : false ≡ true = e in cc
-  stages_inside Supplier m e = e
-  stages_inside WriteOff m e = e
-  stages_inside (Shipped n o) m e = e
+  stages_inside _ m e = e
 
   rest_is : (p : Place) (m : LotId) → without both (stages_of l) p m ≡ (is_bin RETURNS p && is_lot l m)
   rest_is (InBin b) m = and_true (same_text RETURNS b && is_lot l m)
   rest_is (Stage o) m = own_gone (is_lot l m)
-  rest_is Supplier m = refl
-  rest_is WriteOff m = refl
-  rest_is (Shipped n o) m = refl
+  rest_is _ m = refl
 
   pub both_hold : (qs : List Posting) → Legal qs → holds both qs ≡ holds (stages_of l) qs + balance (is_bin RETURNS) (is_lot l) qs
   both_hold qs legal = holds_split qs legal (stages_of l) both inner_stages inner_both stages_inside ∙ (λ i. holds (stages_of l) qs + holds (λ p m. rest_is p m i) qs)
@@ -115,10 +111,7 @@ module _ (first : ℤ) (acts : List Act) (act : Act) (l : LotId) where
       where
         empty : (p : Place) (m : LotId) → stages_of l p m ≡ true → holds (cell_at p m) (postings first after) ≡ 0
         empty (Stage o) m e = ap (λ (x : LotId). staged_of_lot first after o x) (sym (is_lot_is l m e)) ∙ unstaged o
-        empty (InBin b) m e = let f : false ≡ true = e in cc
-        empty Supplier m e = let f : false ≡ true = e in cc
-        empty WriteOff m e = let f : false ≡ true = e in cc
-        empty (Shipped s o) m e = let f : false ≡ true = e in cc
+        empty _ m e = let f : false ≡ true = e in cc
 
     -- Bins
 

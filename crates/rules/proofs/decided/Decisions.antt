@@ -1,11 +1,11 @@
 -- What has to be shown of a command's conditions and change, and that a decision then is the machine's.
-use Rattle.rules.proofs.Words.{◌≡◌, ◌+◌, ◌<◌, false, ◌++◌, List, [], ◌∷◌, refl, ap, sym, subst, ◌∙◌, arith, ℤ, Option, Some, None, Result, Ok, Err, IsTrue, IfOk, codes, decimal, length, nat_le, if◌then◌else◌, nat_tests, is_sound, is_sound_key, ACTS_MAX, Key, Refusal, ActsFull, Command, MetaRow, reply_text, Act, next_number, today, shipments_so_far, Judgement, first_refusal, judgement, verdict, IsHistory, is_key_of, bearer, reply, further_field, tables_of, meta_row, IsSlice, applied, tables_but_repeats, AreOnce, IsDecision, NamesChangedReservations, capped, number_seen, plain_reply, meta_after, IsMade, Slice, Change, RuleFault}
+use Rattle.rules.proofs.Words.{◌≡◌, ◌+◌, ◌<◌, false, ◌++◌, List, [], ◌∷◌, refl, ap, sym, subst, ◌∙◌, arith, ℤ, Option, Some, None, Result, Ok, Err, IsTrue, IfOk, codes, decimal, length, nat_le, if◌then◌else◌, nat_tests, is_sound, is_sound_key, ACTS_MAX, Key, Refusal, ActsFull, Command, MetaRow, reply_text, Act, next_number, today, shipments_so_far, Judgement, first_refusal, judgement, verdict, IsHistory, is_key_of, bearer, reply, further_field, tables_of, meta_row, IsSlice, applied, tables_but_repeats, are_once, IsDecision, NamesChangedReservations, capped, number_seen, plain_reply, meta_after, IsMade, Slice, Change, RuleFault, true}
 
 -- the change is that of the accepted command
 pub record IsChange (first : ℤ) (act : Act) (acts : List Act) (change : Change) : Type 0 where
   pub applies : applied change (tables_of first acts) ≡ tables_but_repeats first act acts
   pub text : change.text ≡ reply first act acts
-  pub once : AreOnce change.put
+  pub once : are_once change.put ≡ true
   pub named : NamesChangedReservations first act acts change
 
 -- the conditions judge as those of the machine, and where it accepts the change is that of the command

@@ -10,7 +10,7 @@ use Rattle.rules.proofs.rows.LotUnits.{bin_within_limit}
 use Rattle.rules.proofs.rows.StageUnits.{stage_within_limit}
 use Rattle.rules.proofs.rows.Planned.{no_shipment, asked_if_planned}
 use Rattle.rules.proofs.rows.DaysAsked.{earliest_told}
-use Rattle.rules.proofs.rows.TableSteps.{AreNamed, same_tables, names_changed, reserved_changed}
+use Rattle.rules.proofs.rows.TableSteps.{AreNamed, names_changed, reserved_changed}
 use Rattle.rules.proofs.rows.Following.{NamesNeeded, AreWithin, Tells, AllNeeded, AllWant, any_posted, keys_needed, keys_once, put_once, are_bins, are_stages, bin_cell, stage_cell, stock_follows, stages_follow, bins_stay, stages_stay}
 use Rattle.rules.proofs.rows.Changing.{changed_follows}
 use Rattle.rules.proofs.rows.PostedRows.{Each, each_once, StaysHome, is_home, MakesNothingKnown, item_at, least_at, bin_at as bin_row_at, PutsLots, recall_at, line_known, open_at, order_at, urgent_at, line_at, shipment_at, shipline_at, card_at, earliest_at}
@@ -209,32 +209,29 @@ module _ (first : ℤ) (acts : List Act) (act : Act) (s : Slice) (slice : IsSlic
     posted_step : change.meta ≡ meta_row first after → applied change (tables_of first acts) ≡ tables_but_repeats first act acts
     unfolding applied tables_of
     posted_step meta =
-        same_tables (applied change (tables_of first acts)) (tables_but_repeats first act acts) (ap Some meta)
-        (item_at first acts act is.known is.home) (least_at first acts act is.known is.home) (bin_row_at first acts act is.known is.home) are.lots.lots (recall_at first acts act is.known is.home) stock_at
-        (order_at first acts act is.known is.home) (urgent_at first acts act is.known is.home) (line_at first acts act is.known is.home) staged_at
-        (reserved_changed first act acts reserved.put reserved.dropped named)
-        (shipment_at first acts act is.known is.home) (shipline_at first acts act is.known is.home) (card_at first acts act is.known is.home facts.cards are.cards) (λ k. refl)
+        λ i. record (applied change (tables_of first acts)) {
+          meta = Some (meta i);
+          item = λ g. item_at first acts act is.known is.home g i;
+          least = λ g. least_at first acts act is.known is.home g i;
+          bin = λ b. bin_row_at first acts act is.known is.home b i;
+          lot = λ l. are.lots.lots l i;
+          recall = λ l. recall_at first acts act is.known is.home l i;
+          stock = λ l b. stock_at l b i;
+          order = λ o. order_at first acts act is.known is.home o i;
+          urgent = λ o. urgent_at first acts act is.known is.home o i;
+          line = λ o g. line_at first acts act is.known is.home o g i;
+          staged = λ o l. staged_at o l i;
+          reserved = λ o l. reserved_changed first act acts reserved.put reserved.dropped named o l i;
+          shipment = λ n. shipment_at first acts act is.known is.home n i;
+          shipline = λ n l. shipline_at first acts act is.known is.home n l i;
+          card = λ l n. card_at first acts act is.known is.home facts.cards are.cards l n i;
+        }
 
     pub posted_changed : no_two is_share_of reserved.put ≡ true → IsChange first act acts change
     posted_changed reserved_once = record {
       applies = posted_step (meta_same first acts act s slice (room_for_acts first acts act.command next.1.passes) is.known.day (ap (λ xs. length xs) is.known.shipments));
       text = are.text;
-      once = record {
-        items = refl;
-        bins = refl;
-        lots = are.lots.once;
-        recalls = refl;
-        stock = stock_once;
-        orders = refl;
-        lines = refl;
-        staged = staged_once;
-        reserved = reserved_once;
-        shipments = refl;
-        shiplines = refl;
-        cards = are.cards_once;
-        least = refl;
-        urgents = refl;
-      };
+      once = λ i. are.lots.once i && (stock_once i && (staged_once i && (reserved_once i && (are.cards_once i && true))));
       named = names_changed first act acts change named;
     }
 

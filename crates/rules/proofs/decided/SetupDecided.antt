@@ -1,7 +1,7 @@
 -- New items and bins are decided as the machine decides them.
 use Rattle.rules.proofs.Words.{◌≡◌, ℕ, List, [], ◌∷◌, refl, ap, sym, ◌∙◌, ◌||◌, ℤ, None, Result, find, same_text, Key, ItemExists, BinExists, NewItem, NewBin, Item, Bin, ItemRow, LeastRow, BinRow, Act, items, least_days, first_refusal, judgement, verdict, reserved, IsHistory, tables_of, meta_row, IsSlice, applied, tables_but_repeats, none_put, none_dropped, item_seen, item_changes, bin_seen, bin_changes, Slice, Change, RuleFault, same_text_refl, room_for_acts, item_accepted, unknown_item_asks_none, other_items_are_left_alone}
 use Rattle.machine.specs.Standing.{bins}
-use Rattle.rules.proofs.rows.TableSteps.{same_tables, AreNamed, nothing_named, names_changed, reserved_changed, put_found}
+use Rattle.rules.proofs.rows.TableSteps.{AreNamed, nothing_named, names_changed, reserved_changed, put_found}
 use Rattle.rules.proofs.decided.Decisions.{AreRight, IsChange, plain_same, meta_same}
 use Rattle.rules.proofs.rows.SliceTells.{item_told, bin_told}
 
@@ -25,10 +25,11 @@ module _ (first : ℤ) (acts : List Act) (key : Key) (s : Slice) where
 
     item_step : (text : List ℕ) → applied (item_change text (days_of i)) (tables_of first acts) ≡ tables_but_repeats first item_act acts
     unfolding applied tables_of
-    item_step text = same_tables (applied (item_change text (days_of i)) (tables_of first acts)) (tables_but_repeats first item_act acts) refl
-        (λ g. put_found shown_item (same_text g i.gtin) i (find (λ x. same_text g x.gtin) (items acts)))
-        (λ g. put_found days_of (same_text g i.gtin) i (find (λ x. same_text g x.gtin) (items acts)))
-        (λ b. refl) (λ l. refl) (λ l. refl) (λ l b. refl) (λ o. refl) (λ o. refl) (λ o g. refl) (λ o l. refl) (reserved_changed first item_act acts [] [] item_named) (λ n. refl) (λ n l. refl) (λ l n. refl) (λ k. refl)
+    item_step text = λ j. record (applied (item_change text (days_of i)) (tables_of first acts)) {
+      item = λ g. put_found shown_item (same_text g i.gtin) i (find (λ x. same_text g x.gtin) (items acts)) j;
+      least = λ g. put_found days_of (same_text g i.gtin) i (find (λ x. same_text g x.gtin) (items acts)) j;
+      reserved = λ o l. reserved_changed first item_act acts [] [] item_named o l j;
+    }
 
     module _ (history : IsHistory first acts) (slice : IsSlice first item_act acts (tables_of first acts) s) where
       item_judged : first_refusal (item_seen s i) ≡ first_refusal (judgement first acts (Item i))
@@ -50,7 +51,7 @@ module _ (first : ℤ) (acts : List Act) (key : Key) (s : Slice) where
             applies = (λ j. applied (record (item_change (item_changes s i).text (none_asked ok j)) { meta = meta_same first acts item_act s slice room refl refl j }) (tables_of first acts))
                 ∙ item_step (item_changes s i).text;
             text = text;
-            once = record { items = refl; bins = refl; lots = refl; recalls = refl; stock = refl; orders = refl; lines = refl; staged = refl; reserved = refl; shipments = refl; shiplines = refl; cards = refl; least = refl; urgents = refl };
+            once = refl;
             named = names_changed first item_act acts (item_changes s i) item_named;
           }
 
@@ -70,10 +71,10 @@ module _ (first : ℤ) (acts : List Act) (key : Key) (s : Slice) where
 
       bin_step : (text : List ℕ) → applied (bin_change text) (tables_of first acts) ≡ tables_but_repeats first bin_act acts
       unfolding applied tables_of
-      bin_step text = same_tables (applied (bin_change text) (tables_of first acts)) (tables_but_repeats first bin_act acts) refl
-          (λ g. refl) (λ g. refl)
-          (λ n. put_found shown_bin (same_text n b.bin) b (find (λ x. same_text n x.bin) (bins acts)))
-          (λ l. refl) (λ l. refl) (λ l b. refl) (λ o. refl) (λ o. refl) (λ o g. refl) (λ o l. refl) (reserved_changed first bin_act acts [] [] bin_named) (λ n. refl) (λ n l. refl) (λ l n. refl) (λ k. refl)
+      bin_step text = λ j. record (applied (bin_change text) (tables_of first acts)) {
+        bin = λ n. put_found shown_bin (same_text n b.bin) b (find (λ x. same_text n x.bin) (bins acts)) j;
+        reserved = λ o l. reserved_changed first bin_act acts [] [] bin_named o l j;
+      }
 
     module _ (slice : IsSlice first bin_act acts (tables_of first acts) s) where
       bin_judged : first_refusal (bin_seen s b) ≡ first_refusal (judgement first acts (Bin b))
@@ -87,7 +88,7 @@ module _ (first : ℤ) (acts : List Act) (key : Key) (s : Slice) where
             applies = ap (λ m. applied (record { meta = m; put = record none_put { bins = shown_bin b ∷ [] }; dropped = none_dropped; text = (bin_changes s b).text }) (tables_of first acts)) (meta_same first acts bin_act s slice room refl refl)
                 ∙ bin_step next (bin_changes s b).text;
             text = plain_same first acts bin_act s slice room refl;
-            once = record { items = refl; bins = refl; lots = refl; recalls = refl; stock = refl; orders = refl; lines = refl; staged = refl; reserved = refl; shipments = refl; shiplines = refl; cards = refl; least = refl; urgents = refl };
+            once = refl;
             named = names_changed first bin_act acts (bin_changes s b) (bin_named next);
           }
 

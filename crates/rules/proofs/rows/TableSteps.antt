@@ -1,31 +1,6 @@
 -- Tables that agree at each key are equal; and what a change says of reserved rows.
 use Rattle.rules.proofs.Words.{◌≡◌, ℕ, Bool, true, false, ◌&&◌, not, List, [], ◌∷◌, refl, ap, sym, ◌∙◌, eq-eqb, ◌==◌, if◌then◌else◌, Option, Some, None, option_map, find, is_some, ℤ, list_any, eqb-true, same_text, LotId, ReservedRow, Act, is_lot, reserved, Tables, tables_of, if_any, reserved_row, changed, unless_put, differs, NamesChangedReservations, Change}
 
-pub same_tables : (t u : Tables) → t.meta ≡ u.meta → ((g : List ℕ) → t.item g ≡ u.item g) → ((g : List ℕ) → t.least g ≡ u.least g) → ((b : List ℕ) → t.bin b ≡ u.bin b)
-    → ((l : LotId) → t.lot l ≡ u.lot l) → ((l : LotId) → t.recall l ≡ u.recall l) → ((l : LotId) (b : List ℕ) → t.stock l b ≡ u.stock l b)
-    → ((o : List ℕ) → t.order o ≡ u.order o) → ((o : List ℕ) → t.urgent o ≡ u.urgent o) → ((o g : List ℕ) → t.line o g ≡ u.line o g) → ((o : List ℕ) (l : LotId) → t.staged o l ≡ u.staged o l)
-    → ((o : List ℕ) (l : LotId) → t.reserved o l ≡ u.reserved o l) → ((n : ℕ) → t.shipment n ≡ u.shipment n) → ((n : ℕ) (l : LotId) → t.shipline n l ≡ u.shipline n l)
-    → ((l : LotId) (n : ℕ) → t.card l n ≡ u.card l n) → ((k : List ℕ) → t.repeat k ≡ u.repeat k) → t ≡ u
-same_tables t u meta item least bin lot recall stock order urgent line staged reserved shipment shipline card repeat =
-    λ j. record {
-      meta = meta j;
-      item = λ g. item g j;
-      least = λ g. least g j;
-      bin = λ b. bin b j;
-      lot = λ l. lot l j;
-      recall = λ l. recall l j;
-      stock = λ l b. stock l b j;
-      order = λ o. order o j;
-      urgent = λ o. urgent o j;
-      line = λ o g. line o g j;
-      staged = λ o l. staged o l j;
-      reserved = λ o l. reserved o l j;
-      shipment = λ n. shipment n j;
-      shipline = λ n l. shipline n l j;
-      card = λ l n. card l n j;
-      repeat = λ k. repeat k j;
-    }
-
 -- Reserved rows before and after
 
 abbrev pub share_row : List ℕ → LotId → ℕ → Option ReservedRow

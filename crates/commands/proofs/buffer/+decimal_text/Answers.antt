@@ -1,5 +1,4 @@
-use Rattle.std.proofs.Common.{rules, arith, ◌≤◌, ◌<◌, ◌^◌, ap, ◌∙◌, length, length-append, lit<}
-use Rattle.std.proofs.lemmas.Fmt.{decimal_digit, decimal_step}
+use Rattle.commands.proofs.Below.{rules, arith, ◌≤◌, ◌<◌, ◌^◌, ap, ◌∙◌, length, length-append, lit<, decimal_digit, decimal_step}
 use Rattle.commands.proofs.Digits.{one_more, long_decimal}
 use Rattle.commands.proofs.buffer.+decimal_text.Goals as goal
 

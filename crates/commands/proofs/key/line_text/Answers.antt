@@ -1,5 +1,4 @@
-use Rattle.std.proofs.Common.{rules, arith, ◌≡◌, ◌++◌, ◌∷◌, [], ◌≤◌, length}
-use Rattle.std.specs.Prelude.{codes, decimal}
+use Rattle.commands.proofs.Below.{rules, arith, ◌≡◌, ◌++◌, ◌∷◌, [], ◌≤◌, length, codes, decimal}
 use Rattle.commands.proofs.Digits.{line_room}
 use Rattle.commands.proofs.key.line_text.Goals as goal
 

@@ -1,6 +1,4 @@
-use Rattle.std.proofs.Common.{◌≡◌, true, take}
-use Rattle.std.specs.List.{list_all}
-use Rattle.commands.specs.Sound.{is_order_line}
+use Rattle.commands.proofs.Below.{◌≡◌, true, take, list_all, is_order_line}
 use Rattle.commands.proofs.laws.lines_are_sound.Given as goal
 
 abbrev pub invariant-loop-line : goal.invariant-loop-line

@@ -1,5 +1,4 @@
-use Rattle.std.proofs.Common.{◌≡◌, ◌++◌, map, take}
-use Rattle.commands.specs.Spelling.{with_line_feeds}
+use Rattle.commands.proofs.Below.{◌≡◌, ◌++◌, map, take, with_line_feeds}
 use Rattle.commands.proofs.spelling.add_fields.Given as goal
 
 abbrev pub invariant-loop-field : goal.invariant-loop-field

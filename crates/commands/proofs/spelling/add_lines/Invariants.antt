@@ -1,5 +1,4 @@
-use Rattle.std.proofs.Common.{◌≡◌, ◌++◌, take}
-use Rattle.commands.specs.Spelling.{lines_fields, with_line_feeds}
+use Rattle.commands.proofs.Below.{◌≡◌, ◌++◌, take, lines_fields, with_line_feeds}
 use Rattle.commands.proofs.spelling.add_lines.Given as goal
 
 abbrev pub invariant-loop-line : goal.invariant-loop-line

@@ -1,6 +1,4 @@
-use Rattle.std.proofs.Common.{◌≡◌, true, length, rules, arith}
-use Rattle.csv.specs.Reading.{expected_len}
-use Rattle.csv.specs.Records.{fields_of}
+use Rattle.goodsin.proofs.Words.{◌≡◌, true, length, rules, arith, expected_len, fields_of}
 use Rattle.goodsin.proofs.RowFacts.{is-receipt, other-row, row-judged, row-over, told-length}
 use Rattle.goodsin.proofs.Steps.{begun}
 use Rattle.goodsin.proofs.file.next_row.Goals as goal

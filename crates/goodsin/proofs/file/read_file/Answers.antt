@@ -1,6 +1,4 @@
-use Rattle.std.proofs.Common.{◌≢◌, ◌≡◌, Err}
-use Rattle.goodsin.specs.Files.{file_read}
-use Rattle.goodsin.specs.declared.fault.FileFault.TheVariants.{Memory, Reader}
+use Rattle.goodsin.proofs.Words.{◌≢◌, ◌≡◌, Err, file_read, Memory, Reader}
 use Rattle.goodsin.proofs.Steps.{on_known, start}
 use Rattle.goodsin.proofs.file.read_file.Goals as goal
 

@@ -1,6 +1,5 @@
-use Rattle.std.proofs.Common.{◌∙◌, [], sym}
+use Rattle.goodsin.proofs.Words.{◌∙◌, [], sym, fields_of}
 use Rattle.std.proofs.lemmas.Result.{err_from_is_err_and}
-use Rattle.csv.specs.Records.{fields_of}
 use Rattle.goodsin.proofs.FileFacts.{no-header, other-header, unexpected}
 use Rattle.goodsin.proofs.Steps.{begun}
 use Rattle.goodsin.proofs.file.read_header.Goals as goal

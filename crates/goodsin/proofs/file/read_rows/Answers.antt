@@ -1,7 +1,5 @@
-use Rattle.std.proofs.Common.{◌≡◌, ◌≢◌, ◌≤◌, ◌+◌, ◌++◌, ◌∷◌, [], true, All, Err, length, length-append, ap, sym, rules, arith}
+use Rattle.goodsin.proofs.Words.{◌≡◌, ◌≢◌, ◌≤◌, ◌+◌, ◌++◌, ◌∷◌, [], true, All, Err, length, length-append, ap, sym, rules, arith, IsReceipt, Memory, Reader}
 use Rattle.std.proofs.lemmas.List.Elements.{All-push, All-same}
-use Rattle.goodsin.specs.Rows.{IsReceipt}
-use Rattle.goodsin.specs.declared.fault.FileFault.TheVariants.{Memory, Reader}
 use Rattle.goodsin.proofs.FileFacts.{file-end, file-fault, row-more}
 use Rattle.goodsin.proofs.file.read_rows.Goals as goal
 

@@ -1,8 +1,4 @@
-use Rattle.std.proofs.Common.{◌≡◌, ◌≤◌, ◌+◌, ◌∷◌, [], ℕ, List, Some, Ok, All, length}
-use Rattle.csv.specs.Reading.{expected_len}
-use Rattle.goodsin.specs.Files.{rows_read}
-use Rattle.goodsin.specs.Reading.{IsReading, Stands}
-use Rattle.goodsin.specs.Rows.{Fields, IsReceipt}
+use Rattle.goodsin.proofs.Words.{◌≡◌, ◌≤◌, ◌+◌, ◌∷◌, [], ℕ, List, Some, Ok, All, length, expected_len, rows_read, IsReading, Stands, Fields, IsReceipt}
 use Rattle.goodsin.proofs.file.read_rows.Given as goal
 
 abbrev pub invariant-rows : goal.invariant-rows

@@ -1,5 +1,4 @@
-use Rattle.std.proofs.Common.{◌≡◌, ◌+◌, ◌*◌, ◌^◌, ◌≤◌, drop, length}
-use Rattle.goodsin.specs.Rows.{number_from}
+use Rattle.goodsin.proofs.Words.{◌≡◌, ◌+◌, ◌*◌, ◌^◌, ◌≤◌, drop, length, number_from}
 use Rattle.goodsin.proofs.row.number.Given as goal
 
 abbrev pub invariant-loop-c : goal.invariant-loop-c

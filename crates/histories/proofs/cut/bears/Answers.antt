@@ -1,4 +1,4 @@
-use Rattle.std.proofs.Common.{◌≡◌, take, length, eq-eqb, eqb-true, rules, sym}
+use Rattle.std.proofs.Common.{◌≡◌, take, length, eq-eqb, eqb-true, rules}
 use Rattle.histories.proofs.Bearing.{front_is, byte_is, bears_it}
 use Rattle.histories.proofs.cut.bears.Goals as goal
 

@@ -1,4 +1,4 @@
-use Rattle.histories.proofs.Words.{◌≡◌, [], length, sym, subst, rules, arith, Consumes, Consumes-nil, appended_bytes}
+use Rattle.histories.proofs.Words.{length, rules, appended_bytes}
 use Rattle.histories.proofs.Ends.{longer, still_open, read_on, is_line, piece_came, no_piece, no_bytes, end_back}
 use Rattle.histories.proofs.reading.read_line.Goals as goal
 

@@ -1,5 +1,5 @@
 -- No line feed has come so far.
-use Rattle.histories.proofs.Words.{◌≢◌, ◌-◌, ◌≤◌, All, length, Consumes, IsPart}
+use Rattle.histories.proofs.Words.{◌-◌, ◌≤◌, length, Consumes, IsPart}
 use Rattle.histories.proofs.reading.read_line.Given as goal
 
 abbrev pub invariant-loop-line : goal.invariant-loop-line

@@ -1,7 +1,4 @@
-use Rattle.std.proofs.Common.{◌≡◌, ◌∙◌, arith, true, length, ap, rules}
-use Rattle.std.specs.Str.{all_ascii_digits}
-use Rattle.label.specs.Days.{year_of_day, two_digits}
-use Rattle.label.specs.Expiry.{full_year, expiry_read}
+use Rattle.label.proofs.Words.{◌≡◌, ◌∙◌, arith, true, length, ap, rules, all_ascii_digits, year_of_day, two_digits, full_year, expiry_read}
 use Rattle.label.proofs.ExpiryRule.{business_is, expiry_read-dated, expiry_read-rule}
 use Rattle.label.proofs.expiry.expiry_of.Goals as goal
 

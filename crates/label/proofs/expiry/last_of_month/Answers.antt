@@ -1,6 +1,4 @@
-use Rattle.std.proofs.Common.{pos, sym, arith, rules}
-use Rattle.std.proofs.lemmas.Grind.{common_steps}
-use Rattle.jiff_core.specs.Calendar.{days_in_month}
+use Rattle.label.proofs.Words.{pos, sym, arith, rules, common_steps, days_in_month}
 use Rattle.label.proofs.DayNumbers.{dated_day-outside}
 use Rattle.label.proofs.expiry.last_of_month.Goals as goal
 

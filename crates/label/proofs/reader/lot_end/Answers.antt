@@ -1,7 +1,4 @@
-use Rattle.std.proofs.Common.{◌∙◌, ap, length}
-use Rattle.std.specs.Prelude.{◌==◌, unwrap_or}
-use Rattle.std.specs.List.{position_or_len}
-use Rattle.std.proofs.lemmas.List.Sums.{prefix_len-le-length}
+use Rattle.label.proofs.Words.{◌∙◌, ap, length, ◌==◌, unwrap_or, position_or_len, prefix_len-le-length}
 use Rattle.label.specs.declared.gs1.TheConstants.{SEPARATOR}
 use Rattle.label.proofs.ElementLemmas.{first_or_all}
 use Rattle.label.proofs.reader.lot_end.Goals as goal

@@ -1,5 +1,4 @@
-use Rattle.std.proofs.Common.{◌≡◌, ◌↔◌, Ok, Err, Some, subst, sym}
-use Rattle.label.specs.Labels.{IsLabelOf, label_fault}
+use Rattle.label.proofs.Words.{◌≡◌, ◌↔◌, Ok, Err, Some, subst, sym, IsLabelOf, label_fault}
 use Rattle.label.proofs.ReadLaws.{reads_exactly_labels, reads_exactly_faults}
 use Rattle.label.proofs.reader.read.Goals as goal
 

@@ -1,5 +1,4 @@
-use Rattle.std.proofs.Common.{◌≡◌, length}
-use Rattle.label.specs.Reading.{body_read, elements_read}
+use Rattle.label.proofs.Words.{◌≡◌, length, body_read, elements_read}
 use Rattle.label.proofs.reader.read_elements.Given as goal
 
 abbrev pub invariant-loop-rest : goal.invariant-loop-rest

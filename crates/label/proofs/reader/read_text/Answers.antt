@@ -1,5 +1,4 @@
-use Rattle.std.proofs.Common.{◌∙◌, ap, sym}
-use Rattle.label.specs.Reading.{and_then, body_read}
+use Rattle.label.proofs.Words.{◌∙◌, ap, sym, and_then, body_read}
 use Rattle.label.proofs.Agreement.{label_read_by_elements}
 use Rattle.label.proofs.reader.read_text.Goals as goal
 

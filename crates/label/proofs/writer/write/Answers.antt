@@ -1,7 +1,4 @@
-use Rattle.std.proofs.Common.{IsTrue, ap, subst, ◌∙◌, rules}
-use Rattle.values.specs.Values.{is_gtin, is_lot_text}
-use Rattle.label.specs.Labels.{label_text, label_read}
-use Rattle.label.specs.Expiry.{expiry_text}
+use Rattle.label.proofs.Words.{IsTrue, ap, subst, ◌∙◌, rules, is_gtin, is_lot_text, label_text, label_read, expiry_text}
 use Rattle.label.proofs.ReadLaws.{label_read-label_text}
 use Rattle.label.proofs.ExpiryRule.{expiry_day-expiry_text}
 use Rattle.label.proofs.writer.write.Goals as goal

@@ -1,4 +1,4 @@
-use Rattle.line_work.proofs.Words.{◌⊎◌, List, inl, inr, refl, ℤ}
+use Rattle.line_work.proofs.Words.{inl, inr, refl}
 use Rattle.line_work.proofs.TakenIn.{unread, went_on}
 use Rattle.line_work.proofs.applying.take_in.Goals as goal
 

@@ -1,4 +1,4 @@
-use Rattle.queries.proofs.Words.{sym, subst, ap, ◌∙◌, refl, result_ok, IsUtf8, IsAscii-decimal, parse-decimal, IsUtf8-from_ascii}
+use Rattle.queries.proofs.Words.{sym, subst, ap, ◌∙◌, result_ok, IsUtf8, IsAscii-decimal, parse-decimal, IsUtf8-from_ascii}
 use Rattle.queries.proofs.shipline.number_of.Goals as goal
 
 pub returns-in-Ok : goal.returns-in-Ok

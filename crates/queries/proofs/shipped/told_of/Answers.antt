@@ -1,4 +1,4 @@
-use Rattle.queries.proofs.Words.{◌≡◌, Some, None, ap, sym, ◌∙◌, Option, same_Some, state, ShiplineRow, units_told, read_none, as_told}
+use Rattle.queries.proofs.Words.{◌≡◌, Some, None, ap, ◌∙◌, Option, same_Some, state, ShiplineRow, units_told, read_none, as_told}
 use Rattle.queries.proofs.ShippedTold.{IsToldOf}
 use Rattle.queries.proofs.shipped.told_of.Goals as goal
 

@@ -1,6 +1,6 @@
 -- The opening of a day is decided as the machine decides it.
 use Rattle.rules.proofs.Words.{◌≡◌, ℕ, Bool, true, false, ◌&&◌, not, List, ◌∷◌, ◌++◌, refl, ◌∙◌, arith, ◌==◌, ◌||◌, ℤ, pos, ◌+ℤ◌, Some, Result, nat_le, length, codes, decimal, list_any, same_text, LotId, ACTS_MAX, Key, OpenDay, ReservedRow, Act, next_number, is_lot, of_item, KnownLot, Placed, lots, lots_of, lot_known, orders, has_item, is_shippable, staged_of_lot, IsHistory, reply, returned_field, tables_of, meta_row, reserved_row, is_touched, IsSlice, applied, tables_but_repeats, changed, none_put, none_dropped, meta_on, staged_gone_on, stock_returned, reserved_put_on, reserved_gone_on, reply_on, day_judged, day_changes, Slice, Change, RuleFault, or_first, same_text_refl, room_for_acts, lots_have_items, item_of_lot}
-use Rattle.rules.proofs.rows.TableSteps.{same_tables, names_changed, reserved_changed}
+use Rattle.rules.proofs.rows.TableSteps.{names_changed, reserved_changed}
 use Rattle.rules.proofs.rows.DaysAsked.{days_told}
 use Rattle.rules.proofs.rows.LeavingLots.{order_row_still, line_row_still, shipline_row_still, card_row_still}
 use Rattle.rules.proofs.decided.Decisions.{AreRight, IsChange, number_same, shipments_seen}
@@ -79,9 +79,15 @@ module _ (first : ℤ) (acts : List Act) (key : Key) (day : ℤ) (s : Slice) (sl
   unfolding applied tables_of
   day_step reserved_at =
       let made = makes first acts act s slice told day s.rows.least tells in
-      same_tables (applied day_change (tables_of first acts)) (tables_but_repeats first act acts) refl
-      (λ g. refl) (λ g. refl) (λ b. refl) (λ l. refl) (λ l. refl) (stock_at first acts act s slice told day s.rows.least tells next) (order_row_still first acts act _ made next) (λ o. refl) (line_row_still first acts act _ made next)
-      (staged_at first acts act s slice told day s.rows.least tells next) reserved_at (λ n. refl) (shipline_row_still first acts act _ made next) (card_row_still first acts act _ made next) (λ k. refl)
+      λ i. record (applied day_change (tables_of first acts)) {
+        stock = λ l b. stock_at first acts act s slice told day s.rows.least tells next l b i;
+        order = λ o. order_row_still first acts act _ made next o i;
+        line = λ o g. line_row_still first acts act _ made next o g i;
+        staged = λ o l. staged_at first acts act s slice told day s.rows.least tells next o l i;
+        reserved = λ o l. reserved_at o l i;
+        shipline = λ n l. shipline_row_still first acts act _ made next n l i;
+        card = λ l n. card_row_still first acts act _ made next l n i;
+      }
 
   meta_same : meta_on s day s.rows.least ≡ meta_row first after
   meta_same = (λ i. record { day = day; acts = (number_same first acts act s slice room ∙ one_more) i; shipments = shipments_seen first acts act s slice i })
@@ -98,22 +104,7 @@ module _ (first : ℤ) (acts : List Act) (key : Key) (day : ℤ) (s : Slice) (sl
       record {
         applies = (λ i. applied (record day_change { meta = meta_same i }) (tables_of first acts)) ∙ day_step (reserved_changed first act acts (reserved_put_on s day s.rows.least) (reserved_gone_on s day s.rows.least) named);
         text = day_text;
-        once = record {
-          items = refl;
-          bins = refl;
-          lots = refl;
-          recalls = refl;
-          stock = stock_once first acts act s slice told day s.rows.least tells next;
-          orders = refl;
-          lines = refl;
-          staged = refl;
-          reserved = out_put_once first acts act s slice told day s.rows.least tells next;
-          shipments = refl;
-          shiplines = refl;
-          cards = refl;
-          least = refl;
-          urgents = refl;
-        };
+        once = λ i. stock_once first acts act s slice told day s.rows.least tells next i && (out_put_once first acts act s slice told day s.rows.least tells next i && true);
         named = names_changed first act acts (day_changes s day) named;
       }
 

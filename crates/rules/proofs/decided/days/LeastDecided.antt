@@ -1,7 +1,7 @@
 -- The days that an item asks for are decided as the machine decides them.
 use Rattle.rules.proofs.Words.{◌≡◌, ℕ, Bool, true, false, ◌&&◌, not, List, [], ◌∷◌, ◌++◌, refl, ap, sym, ◌∙◌, if◌then◌else◌, ℤ, pos, ◌+ℤ◌, Option, Some, None, option_map, is_some, find, Result, nat_le, length, codes, decimal, same_text, LotId, ACTS_MAX, Key, NewItem, NewLeast, Least, LeastRow, ReservedRow, Act, gathered, is_lot, KnownLot, items, item_named, has_item, lot_known, is_held, is_recalled, is_expired, is_shippable, least_in, days_asked, least_days, today, IsHistory, reply, returned_field, tables_of, meta_row, least_row, reserved_row, is_touched, IsSlice, applied, tables_but_repeats, changed, added, unless_put, none_put, none_dropped, days_in, staged_gone_on, stock_returned, reserved_put_on, reserved_gone_on, reply_on, least_judged, least_row_put, least_rows_after, least_changes, Slice, Change, RuleFault, same_text_is, and_not_itself, room_for_acts, least_accepted}
 use Rattle.rules.proofs.rows.FoundRows.{found_passes}
-use Rattle.rules.proofs.rows.TableSteps.{same_tables, names_changed, reserved_changed}
+use Rattle.rules.proofs.rows.TableSteps.{names_changed, reserved_changed}
 use Rattle.rules.proofs.rows.LeavingLots.{order_row_still, line_row_still, shipline_row_still, card_row_still}
 use Rattle.rules.proofs.decided.Decisions.{AreRight, IsChange, day_seen, number_same, meta_same}
 use Rattle.rules.proofs.decided.days.LotsOut.{SaysWhenLotsShip, TellsWhenLotsShip, makes}
@@ -112,9 +112,16 @@ module _ (first : ℤ) (acts : List Act) (key : Key) (l : NewLeast) (s : Slice) 
   unfolding applied tables_of
   least_step reserved_at =
       let made = makes first acts act s slice told s.meta.day asked tells in
-      same_tables (applied least_change (tables_of first acts)) (tables_but_repeats first act acts) refl
-      (λ g. refl) (least_at first acts key l known) (λ b. refl) (λ m. refl) (λ m. refl) (stock_at first acts act s slice told s.meta.day asked tells next) (order_row_still first acts act _ made next) (λ o. refl) (line_row_still first acts act _ made next)
-      (staged_at first acts act s slice told s.meta.day asked tells next) reserved_at (λ n. refl) (shipline_row_still first acts act _ made next) (card_row_still first acts act _ made next) (λ k. refl)
+      λ i. record (applied least_change (tables_of first acts)) {
+        least = λ g. least_at first acts key l known g i;
+        stock = λ m b. stock_at first acts act s slice told s.meta.day asked tells next m b i;
+        order = λ o. order_row_still first acts act _ made next o i;
+        line = λ o g. line_row_still first acts act _ made next o g i;
+        staged = λ o m. staged_at first acts act s slice told s.meta.day asked tells next o m i;
+        reserved = λ o m. reserved_at o m i;
+        shipline = λ n m. shipline_row_still first acts act _ made next n m i;
+        card = λ m n. card_row_still first acts act _ made next m n i;
+      }
 
   least_text : reply_on s s.meta.day asked ≡ reply first act acts
   least_text = (λ i. codes "{\"act\":" ++ decimal (number_same first acts act s slice room i) ++ returned_field (out_is first acts act s slice told s.meta.day asked tells next i) ++ codes "}")
@@ -126,22 +133,7 @@ module _ (first : ℤ) (acts : List Act) (key : Key) (l : NewLeast) (s : Slice) 
         applies = (λ i. applied (record least_change { meta = meta_same first acts act s slice room refl refl i }) (tables_of first acts))
             ∙ least_step (reserved_changed first act acts (reserved_put_on s s.meta.day asked) (reserved_gone_on s s.meta.day asked) named);
         text = least_text;
-        once = record {
-          items = refl;
-          bins = refl;
-          lots = refl;
-          recalls = refl;
-          stock = stock_once first acts act s slice told s.meta.day asked tells next;
-          orders = refl;
-          lines = refl;
-          staged = refl;
-          reserved = out_put_once first acts act s slice told s.meta.day asked tells next;
-          shipments = refl;
-          shiplines = refl;
-          cards = refl;
-          least = refl;
-          urgents = refl;
-        };
+        once = λ i. stock_once first acts act s slice told s.meta.day asked tells next i && (out_put_once first acts act s slice told s.meta.day asked tells next i && true);
         named = names_changed first act acts (least_changes s l) named;
       }
 

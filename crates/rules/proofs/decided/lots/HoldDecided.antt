@@ -9,7 +9,7 @@ use Rattle.rules.proofs.rows.SliceTells.{item_told, recall_told, found_lot}
 use Rattle.rules.proofs.rows.SliceSupplies.{slice_tells_supplies, slice_lots, is_wanted}
 use Rattle.rules.proofs.rows.DemandsTold.{TellsDemands}
 use Rattle.rules.proofs.rows.SuppliesTold.{TellsSupplies}
-use Rattle.rules.proofs.rows.TableSteps.{same_tables, AreNamed, names_changed, reserved_changed}
+use Rattle.rules.proofs.rows.TableSteps.{AreNamed, names_changed, reserved_changed}
 use Rattle.rules.proofs.rows.replanned.OneItem.{TouchesOnly, replanned, replanned_once}
 use Rattle.rules.proofs.rows.ReturnedRows.{returned_once, returned_stock_at, returned_staged_at, demands_after, supplies_after, returned_text}
 use Rattle.rules.proofs.rows.DaysAsked.{earliest_told}
@@ -97,9 +97,16 @@ module _ (first : ℤ) (acts : List Act) (key : Key) (l : LotId) (s : Slice) (sl
         → applied hold_change (tables_of first acts) ≡ tables_but_repeats first act acts
     unfolding applied tables_of
     hold_step reserved_at =
-        same_tables (applied hold_change (tables_of first acts)) (tables_but_repeats first act acts) refl
-        (λ g. refl) (λ g. refl) (λ b. refl) lot_at (λ l. refl) (returned_stock_at first acts act l s slice refl named makes next) (order_row_still first acts act l makes next) (λ o. refl) (line_row_still first acts act l makes next)
-        (returned_staged_at first acts act l s slice refl named makes next) reserved_at (λ n. refl) (shipline_row_still first acts act l makes next) (card_row_still first acts act l makes next) (λ k. refl)
+        λ i. record (applied hold_change (tables_of first acts)) {
+          lot = λ m. lot_at m i;
+          stock = λ m b. returned_stock_at first acts act l s slice refl named makes next m b i;
+          order = λ o. order_row_still first acts act l makes next o i;
+          line = λ o h. line_row_still first acts act l makes next o h i;
+          staged = λ o m. returned_staged_at first acts act l s slice refl named makes next o m i;
+          reserved = λ o m. reserved_at o m i;
+          shipline = λ n m. shipline_row_still first acts act l makes next n m i;
+          card = λ m n. card_row_still first acts act l makes next m n i;
+        }
 
     hold_changed : IsChange first act acts (hold_changes s l)
     hold_changed =
@@ -108,22 +115,7 @@ module _ (first : ℤ) (acts : List Act) (key : Key) (l : LotId) (s : Slice) (sl
           applies = (λ i. applied (record hold_change { meta = meta_same first acts act s slice room refl refl i }) (tables_of first acts))
               ∙ hold_step (reserved_changed first act acts puts drops are_named);
           text = returned_text first acts act l s slice refl named makes next room refl;
-          once = record {
-            items = refl;
-            bins = refl;
-            lots = lot_put_once l true (lot_seen s l);
-            recalls = refl;
-            stock = returned_once s l;
-            orders = refl;
-            lines = refl;
-            staged = refl;
-            reserved = replanned_once first acts act s slice refl next g only s.meta.day rows (earliest_told first acts act s slice refl next.0 g only.own) demands_are supplies_are;
-            shipments = refl;
-            shiplines = refl;
-            cards = refl;
-            least = refl;
-            urgents = refl;
-          };
+          once = λ i. lot_put_once l true (lot_seen s l) i && (returned_once s l i && (replanned_once first acts act s slice refl next g only s.meta.day rows (earliest_told first acts act s slice refl next.0 g only.own) demands_are supplies_are i && true));
           named = names_changed first act acts (hold_changes s l) are_named;
         }
 

@@ -1,5 +1,5 @@
 -- The cancelling of orders is decided as the machine decides it.
-use Rattle.rules.proofs.Words.{◌≡◌, ℕ, true, false, List, [], ◌∷◌, refl, ap, ◌∙◌, ℤ, Option, Some, None, Result, option_map, is_some, nat_le, length, same_text, ACTS_MAX, Key, Cancel, OrderRow, Act, Placed, order_named, IsHistory, tables_of, no_two, IsSlice, applied, none_put, none_dropped, plain_reply, is_share_of, order_row_seen, items_seen, cancelled_row, cancel_put, cancel_dropped, cancel_seen, cancel_changes, Slice, Change, RuleFault, same_text_refl, room_for_acts, cancel_accepted, rows_after_cancel}
+use Rattle.rules.proofs.Words.{◌≡◌, ℕ, true, false, List, [], ◌∷◌, refl, ap, ◌∙◌, ℤ, Option, Some, None, Result, option_map, is_some, nat_le, length, same_text, ACTS_MAX, Key, Cancel, OrderRow, Act, Placed, order_named, IsHistory, tables_of, no_two, IsSlice, applied, none_put, none_dropped, plain_reply, is_share_of, order_row_seen, items_seen, cancelled_row, cancel_put, cancel_dropped, cancel_seen, cancel_changes, Slice, Change, RuleFault, same_text_refl, room_for_acts, cancel_accepted, rows_after_cancel, ◌&&◌}
 use Rattle.rules.proofs.rows.TableSteps.{AreNamed, names_changed, reserved_changed}
 use Rattle.rules.proofs.rows.OrderTold.{found_order_row}
 use Rattle.rules.proofs.rows.OrderItems.{items_told, items_apart}
@@ -48,7 +48,7 @@ module _ (first : ℤ) (acts : List Act) (key : Key) (o : List ℕ) (s : Slice) 
       applies = ap (λ c. applied c (tables_of first acts)) change_same
           ∙ cancel_step first acts key o p named (plain_reply s) (cancel_put s o) (cancel_dropped s o) (reserved_changed first act acts (cancel_put s o) (cancel_dropped s o) are_named);
       text = plain_same first acts act s slice room refl;
-      once = record { items = refl; bins = refl; lots = refl; recalls = refl; stock = refl; orders = ap (no_two (λ (r t : OrderRow). same_text r.order t.order)) row_is; lines = refl; staged = refl; reserved = put_once; shipments = refl; shiplines = refl; cards = refl; least = refl; urgents = refl };
+      once = λ i. no_two (λ (r t : OrderRow). same_text r.order t.order) (row_is i) && (put_once i && true);
       named = names_changed first act acts (cancel_changes s o) are_named;
     }
 

@@ -1,6 +1,5 @@
 -- The change of an order that is cancelled takes the tables to those with the act, if its reserved rows do.
 use Rattle.rules.proofs.Words.{◌≡◌, ℕ, true, false, ◌&&◌, List, [], ◌∷◌, refl, ap, sym, ◌∙◌, ◌||◌, if◌then◌else◌, ℤ, Option, Some, None, option_map, same_text, LotId, Key, Cancel, Open, Done, Cancelled, OrderRow, ReservedRow, Act, is_lot, Placed, orders, order_named, is_cancelled, order_state, is_open, is_open_state, is_shipped_in_full, tables_of, meta_row, order_row, reserved_row, applied, tables_but_repeats, changed, unless_put, none_put, none_dropped, Change, same_text_is, same_text_refl, found_order}
-use Rattle.rules.proofs.rows.TableSteps.{same_tables}
 
 module _ (first : ℤ) (acts : List Act) (key : Key) (o : List ℕ) where
   abbrev pub act : Act
@@ -69,5 +68,4 @@ module _ (first : ℤ) (acts : List Act) (key : Key) (o : List ℕ) where
         → applied (cancel_change text put dropped) (tables_of first acts) ≡ tables_but_repeats first act acts
     unfolding applied tables_of
     cancel_step text put dropped reserved_at =
-        same_tables (applied (cancel_change text put dropped) (tables_of first acts)) (tables_but_repeats first act acts) refl
-        (λ g. refl) (λ g. refl) (λ b. refl) (λ l. refl) (λ l. refl) (λ l b. refl) order_at (λ q. refl) (λ q g. refl) (λ q l. refl) reserved_at (λ n. refl) (λ n l. refl) (λ l n. refl) (λ k. refl)
+        λ i. record (applied (cancel_change text put dropped) (tables_of first acts)) { order = λ q. order_at q i; reserved = λ q l. reserved_at q l i }

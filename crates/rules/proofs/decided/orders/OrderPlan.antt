@@ -1,6 +1,5 @@
 -- After an order the plan of each of its items has the rows of before, and behind them those of its line.
-use Rattle.std.proofs.lemmas.List.{append_assoc}
-use Rattle.rules.proofs.Words.{◌≡◌, ℕ, ◌+◌, true, false, ◌&&◌, not, List, [], ◌∷◌, ◌++◌, refl, ap, sym, subst, ◌∙◌, arith, ◌==◌, if◌then◌else◌, ℤ, Option, Some, None, find, filter, map, flat_map, reverse, list_any, cons_option, eqb-true, reverse-append, same_text, LotId, Key, OrderLine, NewOrder, OrderRow, LotRow, Demand, Supply, Row, Stretch, overlap, row_of, rows_of_demand, rows_from, plan_rows, supplies_laid, demand_total, reserved_in, reserved_for, total-append, plan_rows-append, Act, next_number, of_item, Placed, KnownLot, orders, order_named, has_order, lot_known, is_urgent, is_normal, booking_of, lines_of_item, bookings, demand_of, demands, supplies, item_postings, plan, reserved, reserved_of, IsHistory, named_row, named_rows, or_none, same_text_is, same_text_refl, AreApart, demands_apart, act_names_order, map_appended}
+use Rattle.rules.proofs.Words.{◌≡◌, ℕ, ◌+◌, true, false, ◌&&◌, not, List, [], ◌∷◌, ◌++◌, refl, ap, sym, subst, ◌∙◌, arith, ◌==◌, if◌then◌else◌, ℤ, Option, Some, None, find, filter, map, flat_map, reverse, list_any, cons_option, eqb-true, reverse-append, same_text, LotId, Key, OrderLine, NewOrder, OrderRow, LotRow, Demand, Supply, Row, Stretch, overlap, row_of, rows_of_demand, rows_from, plan_rows, supplies_laid, demand_total, reserved_in, reserved_for, total-append, plan_rows-append, Act, next_number, of_item, Placed, KnownLot, orders, order_named, has_order, lot_known, is_urgent, is_normal, booking_of, lines_of_item, bookings, demand_of, demands, supplies, item_postings, plan, reserved, reserved_of, IsHistory, named_row, named_rows, or_none, same_text_is, same_text_refl, AreApart, demands_apart, act_names_order, map_appended, append_assoc}
 use Rattle.rules.proofs.decided.orders.Placing.{new_needs}
 use Rattle.rules.proofs.decided.orders.OrderStep.{act, after, placed, named_same}
 

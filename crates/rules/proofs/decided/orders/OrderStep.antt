@@ -1,6 +1,5 @@
 -- The change of an order, urgent or not, takes the tables to those with the act, if its reserved rows do.
 use Rattle.rules.proofs.Words.{◌≡◌, ℕ, ◌≤◌, Bool, true, false, ◌&&◌, List, [], ◌∷◌, refl, ap, sym, ◌∙◌, arith, ◌==◌, if◌then◌else◌, ℤ, Option, Some, None, find, map, option_map, list_all, eqb-true, same_text, LotId, Key, OrderLine, NewOrder, Open, Done, Cancelled, OrderRow, LineRow, UrgentRow, ReservedRow, Act, next_number, is_lot, Placed, orders, order_named, has_order, lines_placed, is_cancelled, shipped_of, order_state, IsHistory, tables_of, meta_row, if_urgent, order_row, urgent_row, line_row, reserved_row, applied, tables_but_repeats, changed, unless_put, none_put, none_dropped, new_line_rows, Change, same_text_is, found_order, not_some, new_is_not_cancelled, new_is_not_named, new_has_nothing_shipped}
-use Rattle.rules.proofs.rows.TableSteps.{same_tables}
 use Rattle.rules.proofs.rows.AddedRows.{put_over_none}
 use Rattle.rules.proofs.decided.orders.Placing.{placing_act, placed_by, named_with, named_are, state_is, line_row_is, urgent_row_is}
 
@@ -153,10 +152,16 @@ pub order_step : (first : ℤ) (acts : List Act) (key : Key) (o : NewOrder) (u :
     → applied (order_change first acts key o u text put dropped) (tables_of first acts) ≡ tables_but_repeats first (act first acts key o u) acts
 unfolding applied tables_of
 order_step first acts key o true history new some text put dropped reserved_at =
-    same_tables (applied (order_change first acts key o true text put dropped) (tables_of first acts)) (tables_but_repeats first (act first acts key o true) acts) refl
-    (λ g. refl) (λ g. refl) (λ b. refl) (λ l. refl) (λ l. refl) (λ l b. refl) (order_at first acts key o true history new some) (urgent_at first acts key o true new) (line_at first acts key o true history new some)
-    (λ q l. refl) reserved_at (λ n. refl) (λ n l. refl) (λ l n. refl) (λ k. refl)
+    λ i. record (applied (order_change first acts key o true text put dropped) (tables_of first acts)) {
+      order = λ q. order_at first acts key o true history new some q i;
+      urgent = λ q. urgent_at first acts key o true new q i;
+      line = λ q g. line_at first acts key o true history new some q g i;
+      reserved = λ q l. reserved_at q l i;
+    }
 order_step first acts key o false history new some text put dropped reserved_at =
-    same_tables (applied (order_change first acts key o false text put dropped) (tables_of first acts)) (tables_but_repeats first (act first acts key o false) acts) refl
-    (λ g. refl) (λ g. refl) (λ b. refl) (λ l. refl) (λ l. refl) (λ l b. refl) (order_at first acts key o false history new some) (urgent_at first acts key o false new) (line_at first acts key o false history new some)
-    (λ q l. refl) reserved_at (λ n. refl) (λ n l. refl) (λ l n. refl) (λ k. refl)
+    λ i. record (applied (order_change first acts key o false text put dropped) (tables_of first acts)) {
+      order = λ q. order_at first acts key o false history new some q i;
+      urgent = λ q. urgent_at first acts key o false new q i;
+      line = λ q g. line_at first acts key o false history new some q g i;
+      reserved = λ q l. reserved_at q l i;
+    }

@@ -1,5 +1,5 @@
 -- New orders are decided as the machine decides them.
-use Rattle.rules.proofs.Words.{◌≡◌, false, List, [], ◌∷◌, refl, ap, ◌∙◌, ℤ, Result, Key, NewOrder, Order, Act, IsHistory, tables_of, IsSlice, applied, none_put, none_dropped, new_line_rows, order_rows_to_put, order_reply, order_seen, order_changes, Slice, Change, RuleFault, room_for_acts}
+use Rattle.rules.proofs.Words.{◌≡◌, false, List, [], ◌∷◌, refl, ap, ◌∙◌, ℤ, Result, Key, NewOrder, Order, Act, IsHistory, tables_of, IsSlice, applied, none_put, none_dropped, new_line_rows, order_rows_to_put, order_reply, order_seen, order_changes, Slice, Change, RuleFault, room_for_acts, ◌&&◌, true}
 use Rattle.rules.proofs.rows.TableSteps.{names_changed, reserved_changed}
 use Rattle.rules.proofs.decided.Decisions.{AreRight, IsChange, meta_same}
 use Rattle.rules.proofs.decided.orders.OrderJudged.{order_judged}
@@ -30,7 +30,7 @@ module _ (first : ℤ) (acts : List Act) (key : Key) (o : NewOrder) (s : Slice) 
             ∙ order_step first acts key o false next.0 (is_new first acts key o false s slice next) (some_wanted first acts key o false s slice next) (order_reply s o) (order_rows_to_put s o o.lines) []
             (reserved_changed first act acts (order_rows_to_put s o o.lines) [] named);
         text = order_text first acts key o s slice next;
-        once = record { items = refl; bins = refl; lots = refl; recalls = refl; stock = refl; orders = refl; lines = new_lines_once first acts key o false s slice next; staged = refl; reserved = order_put_once first acts key o s slice next; shipments = refl; shiplines = refl; cards = refl; least = refl; urgents = refl };
+        once = λ i. new_lines_once first acts key o false s slice next i && (order_put_once first acts key o s slice next i && true);
         named = names_changed first act acts (order_changes s o) named;
       }
 

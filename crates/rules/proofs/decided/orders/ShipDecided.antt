@@ -48,22 +48,7 @@ module _ (first : ℤ) (acts : List Act) (key : Key) (o : List ℕ) (s : Slice) 
   ship_changed = record {
     applies = ship_step first acts key o s slice next;
     text = ship_text;
-    once = record {
-      items = refl;
-      bins = refl;
-      lots = refl;
-      recalls = refl;
-      stock = refl;
-      orders = one_order (order_row_seen s o) (list_any lacks_units (lines_shipped s o));
-      lines = lines_once;
-      staged = refl;
-      reserved = refl;
-      shipments = refl;
-      shiplines = shiplines_once;
-      cards = cards_once;
-      least = refl;
-      urgents = refl;
-    };
+    once = λ i. one_order (order_row_seen s o) (list_any lacks_units (lines_shipped s o)) i && (lines_once i && (shiplines_once i && (cards_once i && true)));
     named = names_changed first act acts (ship_changes s o) (none_named first acts key o s slice next);
   }
 

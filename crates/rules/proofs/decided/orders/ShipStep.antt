@@ -4,7 +4,7 @@ use Rattle.rules.proofs.rows.AddedRows.{find_appended, put_over_none}
 use Rattle.rules.proofs.rows.FoundRows.{same_finds, find_never, find_kept, find_mapped}
 use Rattle.rules.proofs.rows.LotUnits.{lot_units_told, lot_within_limit}
 use Rattle.rules.proofs.rows.SliceDemands.{slice_tells_stages}
-use Rattle.rules.proofs.rows.TableSteps.{AreNamed, nothing_named, reserved_changed, same_tables}
+use Rattle.rules.proofs.rows.TableSteps.{AreNamed, nothing_named, reserved_changed}
 use Rattle.rules.proofs.decided.Decisions.{day_seen}
 use Rattle.rules.proofs.decided.orders.ShipTells.{number_is, shipment_is, meta_is, unstaged, found_staged, staged_at, line_at}
 use Rattle.rules.proofs.decided.orders.ShipCloses.{order_at}
@@ -217,6 +217,14 @@ module _ (first : ℤ) (acts : List Act) (key : Key) (o : List ℕ) (s : Slice) 
   pub ship_step : applied (ship_changes s o) (tables_of first acts) ≡ tables_but_repeats first act acts
   unfolding applied tables_of
   ship_step =
-      same_tables (applied (ship_changes s o) (tables_of first acts)) (tables_but_repeats first act acts) (ap (λ m. Some m) (meta_is first acts key o s slice next))
-      (λ g. refl) (λ g. refl) (λ b. refl) (λ l. refl) (λ l. refl) stock_at (order_at first acts key o s slice next) (λ u. refl) (line_at first acts key o s slice next) (staged_at first acts key o s slice next)
-      (reserved_changed first act acts [] [] none_named) shipment_at shipline_at card_at (λ k. refl)
+      λ i. record (applied (ship_changes s o) (tables_of first acts)) {
+        meta = Some (meta_is first acts key o s slice next i);
+        stock = λ l b. stock_at l b i;
+        order = λ u. order_at first acts key o s slice next u i;
+        line = λ u g. line_at first acts key o s slice next u g i;
+        staged = λ u l. staged_at first acts key o s slice next u l i;
+        reserved = λ u l. reserved_changed first act acts [] [] none_named u l i;
+        shipment = λ n. shipment_at n i;
+        shipline = λ n l. shipline_at n l i;
+        card = λ l n. card_at l n i;
+      }

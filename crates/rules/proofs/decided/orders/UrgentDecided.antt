@@ -65,22 +65,7 @@ module _ (first : ℤ) (acts : List Act) (key : Key) (o : NewOrder) (s : Slice) 
         ∙ order_step first acts key o true next.0 (is_new first acts key o true s slice next) (some_wanted first acts key o true s slice next) text (urgent_put s o) (urgent_dropped s o)
         (reserved_changed first act acts (urgent_put s o) (urgent_dropped s o) are_named);
     text = urgent_text first acts key o s slice next;
-    once = record {
-      items = refl;
-      bins = refl;
-      lots = refl;
-      recalls = refl;
-      stock = refl;
-      orders = refl;
-      lines = new_lines_once first acts key o true s slice next;
-      staged = refl;
-      reserved = put_once;
-      shipments = refl;
-      shiplines = refl;
-      cards = refl;
-      least = refl;
-      urgents = refl;
-    };
+    once = λ i. new_lines_once first acts key o true s slice next i && (put_once i && true);
     named = names_changed first act acts (urgent_changes s o) are_named;
   }
 

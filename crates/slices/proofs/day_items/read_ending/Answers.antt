@@ -1,6 +1,5 @@
-use Rattle.slices.proofs.Words.{◌≡◌, ℕ, List, filter, subst, ap, ◌∙◌, same_text, SqliteFailure, OutOfMemory, RecallKey, same_recall, recall_key, is_ending, items_of_lots, not_recalled}
+use Rattle.slices.proofs.Words.{◌≡◌, ℕ, List, filter, subst, ap, ◌∙◌, same_text, SqliteFailure, OutOfMemory, RecallKey, same_recall, recall_key, is_ending, items_of_lots, not_recalled, Each}
 use Rattle.table_words.specs.Found.{AreRows}
-use Rattle.slices.specs.Slicing.{Each}
 use Rattle.slices.proofs.ReadSteps.{has_read, read_on, and_then, so_told, fails_first, fails_later, no_room_left}
 use Rattle.slices.proofs.day_items.read_ending.Goals as goal
 

@@ -1,4 +1,4 @@
-use Rattle.slices.proofs.Words.{◌≡◌, true, List, sym, subst, bytes_eq, Tables, ReservedRow, SqliteFailure, OutOfMemory, same_lot_id, ReservedKey, same_reserved, reserved_key, and_both, AreReservedOf, AreReservedOfOrder}
+use Rattle.slices.proofs.Words.{◌≡◌, true, List, sym, subst, bytes_eq, ReservedRow, SqliteFailure, OutOfMemory, same_lot_id, ReservedKey, same_reserved, reserved_key, and_both, AreReservedOf, AreReservedOfOrder}
 use Rattle.slices.proofs.ReadSteps.{has_read, so_told, fails_first, no_room_left}
 use Rattle.slices.proofs.RowsAmong.{rows_among}
 use Rattle.slices.proofs.KeysTold.{same_share_is}

@@ -1,4 +1,4 @@
-use Rattle.slices.proofs.Words.{◌≡◌, true, List, sym, subst, bytes_eq, Tables, StagedRow, SqliteFailure, OutOfMemory, same_lot_id, StagedKey, same_staged, staged_key, and_both, AreStagedOf, AreStagedOfOrder}
+use Rattle.slices.proofs.Words.{◌≡◌, true, List, sym, subst, bytes_eq, StagedRow, SqliteFailure, OutOfMemory, same_lot_id, StagedKey, same_staged, staged_key, and_both, AreStagedOf, AreStagedOfOrder}
 use Rattle.slices.proofs.ReadSteps.{has_read, so_told, fails_first, no_room_left}
 use Rattle.slices.proofs.RowsAmong.{rows_among}
 use Rattle.slices.proofs.KeysTold.{same_share_is}

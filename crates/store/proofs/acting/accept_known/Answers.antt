@@ -1,7 +1,8 @@
-use Rattle.store.proofs.Words.{Ok, Result, subst, sym, arith, Some, HasCleanDisk, state, IsReady, tables_in, kept_unchanged, kept_then, inside_then, Act, IsInsideOpen, Acts, IsDecidedAs, repeat_of, Fault, Reply}
+use Rattle.store.proofs.Words.{Ok, Result, subst, sym, arith, Some, HasCleanDisk, state, IsReady, tables_in, kept_unchanged, kept_then, inside_then, Act, IsInsideOpen, Acts, IsDecidedAs, RepeatRow, repeat_of, change_made, Fault, Reply}
 use Rattle.store.proofs.ActsFrom.{acts_unread}
 use Rattle.store.proofs.ActsInside.{accepted_inside}
 use Rattle.store.proofs.KnownKept.{holds_more, known_written, known_answered_to}
+use Rattle.store.proofs.LinesFilled.{Fills, made_as_written, writes_rows}
 use Rattle.store.proofs.acting.accept_known.Goals as goal
 
 pub returns-in_err-add_change-clause-acts : goal.returns-in_err-add_change-clause-acts
@@ -22,6 +23,9 @@ returns-clause-acts g c =
     let read = c.in_ok-add_change.ensures.read in
     let done = c.accept-written.result in
     let writes = c.accept-written.ensures.writes in
+    let row : RepeatRow = repeat_of act.key act.command change in
+    let filled = c.order_filled-filled.result in
+    let fills = subst (Fills c.args.known.now filled) c.as_slice.ensures c.order_filled-filled.ensures in
     subst (λ (r : Result Reply Fault). IsInsideOpen (Acts act (IsDecidedAs (Ok change)) (Some c.args.known.now) (Some c.follow.new.known) r) old new) (sym c.answer_to.ensures) (record {
       survives = inside_then old mid new read.survives writes.survives;
       does = λ up.
@@ -29,10 +33,11 @@ returns-clause-acts g c =
           let same = λ (clean : HasCleanDisk new) (ready : IsReady old.now). (read.answers (was clean) ready up).0 in
           let stays : HasCleanDisk new → IsReady old.now → IsReady mid.now = λ clean ready. subst IsReady (sym (same clean ready).0.now_is) ready in
           record {
-            acted = λ clean kind first acts history books holds so. accepted_inside first acts act change old mid new up (books up) (same clean (books up).ready) so.0 so.1 done writes clean (stays clean (books up).ready);
+            acted = λ clean kind first acts history books holds so. accepted_inside first acts act change old mid new up (books up) (same clean (books up).ready) so.0 so.1 done
+                (writes_rows c.args.known.now change filled fills row old mid new done (same clean (books up).ready) (holds up) writes) clean (stays clean (books up).ready);
             knows = λ clean ready. known_answered_to change (Some c.args.known.now) (Some c.follow.new.known) done old new
-                (known_written c.args.known.now c.add_change.new.self c.follow.new.known change (repeat_of act.key act.command change) added.keeps added.keeps_urgent added.raised added.forgets c.follow.ensures.same done old mid new (same clean (ready up))
-                (added.followed (was clean) (ready up) up) (read.answers (was clean) (ready up) up).1 c.follow.ensures.follows c.follow.ensures.unwritten (writes.done clean (stays clean (ready up))));
+                (known_written c.args.known.now c.add_change.new.self c.follow.new.known change row added.keeps added.keeps_urgent added.raised added.forgets c.follow.ensures.same (change_made change filled) done old mid new (same clean (ready up))
+                (added.followed (was clean) (ready up) up) (read.answers (was clean) (ready up) up).1 c.follow.ensures.follows c.follow.ensures.unwritten (made_as_written c.args.known.now change filled fills (tables_in old.now.trees)) (writes.done clean (stays clean (ready up))));
             kept = λ clean ready. kept_then old mid new (kept_unchanged old mid (same clean (ready up))) (writes.kept clean);
           };
     })

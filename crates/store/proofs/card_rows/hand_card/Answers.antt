@@ -1,5 +1,4 @@
-use Rattle.store.proofs.Words.{Ok, Err, inl, arith, sym, subst, err_from_is_err_and, HasCleanDisk, state, card_of_lot, AreCardLines, card_lines_of}
-use Rattle.table_words.specs.Typed.{Tables}
+use Rattle.store.proofs.Words.{Ok, Err, inl, arith, sym, subst, err_from_is_err_and, HasCleanDisk, state, card_of_lot, AreCardLines, card_lines_of, Tables}
 use Rattle.store.proofs.HandedOn.{books_on, left_keeps, handed_all, handed_some, handed_none, never_commits_none, never_commits_on, left_stays, handed_stays}
 use Rattle.store.proofs.card_rows.hand_card.Goals as goal
 

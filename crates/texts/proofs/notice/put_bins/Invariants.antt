@@ -1,6 +1,4 @@
-use Rattle.std.proofs.Common.{flat_map, take}
-use Rattle.std.specs.Io.KnownBytes.{Appends}
-use Rattle.texts.specs.Notice.{bin_line}
+use Rattle.texts.proofs.Words.{flat_map, take, Appends, bin_line}
 use Rattle.texts.proofs.notice.put_bins.Given as goal
 
 abbrev pub invariant-loop-units : goal.invariant-loop-units

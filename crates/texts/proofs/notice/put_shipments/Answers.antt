@@ -1,5 +1,4 @@
-use Rattle.std.proofs.Common.{flat_map, arith}
-use Rattle.texts.specs.Notice.{shipment_line}
+use Rattle.texts.proofs.Words.{flat_map, arith, shipment_line}
 use Rattle.texts.proofs.Beginnings.{cut_at}
 use Rattle.texts.proofs.Looping.{step_written, step_cut}
 use Rattle.texts.proofs.notice.put_shipments.Goals as goal

@@ -1,6 +1,4 @@
-use Rattle.std.proofs.Common.{flat_map, take}
-use Rattle.std.specs.Io.KnownBytes.{Appends}
-use Rattle.texts.specs.Notice.{shipment_line}
+use Rattle.texts.proofs.Words.{flat_map, take, Appends, shipment_line}
 use Rattle.texts.proofs.notice.put_shipments.Given as goal
 
 abbrev pub invariant-loop-units : goal.invariant-loop-units

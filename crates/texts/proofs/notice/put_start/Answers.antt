@@ -1,6 +1,4 @@
-use Rattle.std.specs.Prelude.{codes}
-use Rattle.std.proofs.Common.{◌++◌}
-use Rattle.texts.specs.Lines.{head_line, lot_line}
+use Rattle.texts.proofs.Words.{codes, ◌++◌, head_line, lot_line}
 use Rattle.texts.proofs.Beginnings.{cut_at, beginning_of_first, writes_behind}
 use Rattle.texts.proofs.notice.put_start.Goals as goal
 

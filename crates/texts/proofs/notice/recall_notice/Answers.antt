@@ -1,7 +1,4 @@
-use Rattle.std.proofs.Common.{◌++◌, flat_map}
-use Rattle.std.proofs.KnownBytes.{Appends-trans}
-use Rattle.commands.specs.Lists.{total}
-use Rattle.texts.specs.Notice.{notice_start, bin_line, shipment_line, notice_end}
+use Rattle.texts.proofs.Words.{◌++◌, flat_map, Appends-trans, total, notice_start, bin_line, shipment_line, notice_end}
 use Rattle.texts.proofs.Beginnings.{cut_at, beginning_of_first, beginning_of_second, writes_behind}
 use Rattle.texts.proofs.notice.recall_notice.Goals as goal
 

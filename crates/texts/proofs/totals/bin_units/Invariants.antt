@@ -1,5 +1,4 @@
-use Rattle.std.proofs.Common.{◌≡◌, take}
-use Rattle.commands.specs.Lists.{total}
+use Rattle.texts.proofs.Words.{◌≡◌, take, total}
 use Rattle.texts.proofs.totals.bin_units.Given as goal
 
 abbrev pub invariant-loop-bin : goal.invariant-loop-bin

@@ -1,4 +1,4 @@
-use Rattle.whole_tables.proofs.Words.{◌≡◌, [], ◌∷◌, sym, subst, Int, IsPlain, state, understood, on_ok_if, if_ok, if_err}
+use Rattle.whole_tables.proofs.Words.{sym, subst, IsPlain, state, understood, on_ok_if, if_ok, if_err}
 use Rattle.whole_tables.proofs.Halving.{half_typed, half_read}
 use Rattle.whole_tables.proofs.halves.half_rows.Goals as goal
 

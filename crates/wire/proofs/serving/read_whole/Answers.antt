@@ -1,4 +1,4 @@
-use Rattle.wire.proofs.Words.{[], inl, sym, subst, refl, rules, append-nil, Consumes, Consumes-nil, IsReading, Need}
+use Rattle.wire.proofs.Words.{[], inl, sym, subst, refl, append-nil, Consumes, Consumes-nil, IsReading, Need}
 use Rattle.wire.proofs.Bounded.{bounded}
 use Rattle.wire.proofs.ReadOn.{needing_has_memory, settled, nearer, taken_on, at_stop}
 use Rattle.wire.proofs.serving.read_whole.Goals as goal

@@ -1,5 +1,4 @@
-use Rattle.std.proofs.Common.{arith, ℕ, List, ◌≡◌, ◌+◌, ◌++◌, ◌∷◌, [], ◌<◌, ◌≤◌, ◌∙◌, ap, length, length-append, take, set, length-take}
-use Rattle.std.proofs.lemmas.List.{take_more_set}
+use Rattle.commands.proofs.Below.{arith, ℕ, List, ◌≡◌, ◌+◌, ◌++◌, ◌∷◌, [], ◌<◌, ◌≤◌, ◌∙◌, ap, length, length-append, take, set, length-take, take_more_set}
 use Rattle.commands.proofs.buffer.Buffer.push.Goals as goal
 
 pushed : (bs : List ℕ) (n x : ℕ) (s : List ℕ) (room : ℕ) → take n bs ≡ s → length bs ≡ room → n ≤ room → length s < room → take (n + 1) (set bs n x) ≡ s ++ x ∷ []

@@ -1,6 +1,5 @@
-use Rattle.std.proofs.Common.{rules, arith, FitsSigned, w32, w64}
+use Rattle.label.proofs.Words.{rules, arith, FitsSigned, w32, w64, signed_arith}
 use Rattle.std.proofs.lemmas.Int.{to_z-of_z}
-use Rattle.jiff.proofs.SpanFacts.{signed_arith}
 use Rattle.label.proofs.DayNumbers.{day_bounds, epoch_is_zero}
 use Rattle.label.proofs.day.Day.civil.Goals as goal
 

@@ -1,6 +1,4 @@
-use Rattle.std.proofs.Common.{ap, ◌∙◌, arith}
-use Rattle.jiff.specs.Words.{epoch_day}
-use Rattle.jiff.proofs.SpanFacts.{signed_arith}
+use Rattle.label.proofs.Words.{ap, ◌∙◌, arith, epoch_day, signed_arith}
 use Rattle.label.proofs.DayNumbers.{parts_of_civil}
 use Rattle.label.proofs.day.Day.date.Goals as goal
 

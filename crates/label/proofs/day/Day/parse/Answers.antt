@@ -1,5 +1,4 @@
-use Rattle.std.proofs.Common.{◌≡◌, ◌+◌, ◌*◌, true, ◌∙◌, ap, rules}
-use Rattle.label.specs.Days.{is_day_form, parsed_day}
+use Rattle.label.proofs.Words.{◌≡◌, ◌+◌, ◌*◌, true, ◌∙◌, ap, rules, is_day_form, parsed_day}
 use Rattle.label.proofs.DayTexts.{parsed_day-parts, parsed_day-written, parsed_day-day_text}
 use Rattle.label.proofs.day.Day.parse.Goals as goal
 

@@ -1,7 +1,4 @@
-use Rattle.std.proofs.Common.{◌≡◌, Err, ap, subst, sym, ◌∙◌, arith}
-use Rattle.std.specs.Prelude.{IfOk, IfErr}
-use Rattle.std.proofs.lemmas.Grind.{common_steps}
-use Rattle.label.specs.Reading.{field_read, element_read, IsStep}
+use Rattle.label.proofs.Words.{◌≡◌, Err, ap, subst, sym, ◌∙◌, arith, IfOk, IfErr, common_steps, field_read, element_read, IsStep}
 use Rattle.label.proofs.ElementLemmas.{element_read-new}
 use Rattle.label.proofs.reader.Found.take_element.Goals as goal
 

@@ -1,4 +1,4 @@
-use Rattle.queries.proofs.Words.{◌≡◌, List, ap, sym, ◌∙◌, IsSomeAnd, BinUnits, ShippedUnits, shipments_of_lot, bins_seen}
+use Rattle.queries.proofs.Words.{◌≡◌, ap, ◌∙◌, bins_seen}
 use Rattle.queries.proofs.NoticeRight.{told_by, none_missing}
 use Rattle.queries.proofs.shown_notice.NoticeQueryQuery.view.Goals as goal
 
