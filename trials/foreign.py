@@ -14,10 +14,10 @@ import subprocess
 import sys
 
 import server
+from acts import TABLES
 
 lotd, room, port = server.program(), server.room(), server.number("PORT", 18083)
 OATS, RYE = "09506000134352", "04012345000016"
-TABLES = "meta items bins lots recalls stock orders lines staged reserved shipments shiplines cards repeats least urgents".split()
 HEADER = "delivery,line,gtin,lot,expiry,bin,qty\n"
 FOREIGN = (503, '{"code":"W91"}')
 REFUSED = (1, b"", b"lotd: foreign books\n")

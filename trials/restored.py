@@ -9,12 +9,10 @@ import subprocess
 import sys
 
 import server
+from acts import TABLES
 
 lotd, room, port = server.program(), server.room(), server.number("PORT", 18082)
 OATS = "09506000134352"
-TABLES = (
-    "meta items bins lots recalls stock orders lines staged reserved shipments shiplines cards repeats least urgents"
-).split()
 INDEXES = ["reserved_by_gtin", "staged_by_gtin"]
 
 # What the warehouse did: two lots, two orders, one of them shipped, and a recall.
