@@ -53,7 +53,7 @@ unfolding everything
 staged_by_gtin_made = record {
   size = 58;
   at = 8;
-  table = staged_table 15;
+  table = staged_table;
   index = plain_index (codes "staged_by_gtin") 15 (2 ∷ []);
   means = makes_or_finds 58 8 (codes "staged_by_gtin") STAGED_BY_GTIN.now staged_by_gtin_free staged_by_gtin_means;
   whole = λ command. refl;
@@ -76,7 +76,7 @@ unfolding everything
 reserved_by_gtin_made = record {
   size = 62;
   at = 9;
-  table = reserved_table 17;
+  table = reserved_table;
   index = plain_index (codes "reserved_by_gtin") 17 (2 ∷ []);
   means = makes_or_finds 62 9 (codes "reserved_by_gtin") RESERVED_BY_GTIN.now reserved_by_gtin_free reserved_by_gtin_means;
   whole = λ command. refl;

@@ -55,7 +55,7 @@ pub use Rattle.commands.specs.declared.rows.MetaRow.{MetaRow}
 pub use Rattle.table_words.specs.Cells.{typed, is_the_number}
 pub use Rattle.table_words.specs.Found.{no_two}
 pub use Rattle.table_words.specs.Rows.{IsRows}
-pub use Rattle.table_words.specs.Schema.{schema_with, the_tables, least_table, least_tree, urgents_table, urgents_tree, meta_tree, is_harmless, schema_0, HasTables, staged_table, reserved_table, meta_table, items_table, bins_table, lots_table, recalls_table, stock_table, orders_table, lines_table, shipments_table, shiplines_table, cards_table, repeats_table, items_tree}
+pub use Rattle.table_words.specs.Schema.{schema_with, the_tables, least_table, urgents_table, meta_table, is_harmless, schema_0, HasTables, staged_table, reserved_table, items_table, bins_table, lots_table, recalls_table, stock_table, orders_table, lines_table, shipments_table, shiplines_table, cards_table, repeats_table}
 pub use Rattle.table_words.specs.Steps.{IsReady, Goes, ChangesNone}
 pub use Rattle.table_words.specs.Stored.{is_stored_row}
 pub use Rattle.table_words.specs.Typed.{Tables, tables_in, with_meta, with_least as with_least_row, is_meta_at, meta_in, same_meta, meta_key, meta_at, item_mapping, least_mapping, urgent_mapping, Rule, rule_for, first_rules, second_rules, Keeps, AreTyped, AreTypedAt, no_rows, with_bin, the_rules, meta_rows_rows}

@@ -1,7 +1,7 @@
 -- Books of the older schemas, and what is left of their schema without the indexes of the books.
 use Rattle.std.specs.Prelude.{◌≡◌, ℕ, Bool, true, not, ◌&&◌, List, [], ◌∷◌, ◌++◌, codes, length, Option, Some, None, Ok, bytes_eq, nat_lt}
 use Rattle.std.specs.List.{AllByRecursion, list_all, list_any, position_from}
-use Rattle.books_schema.specs.Words.{IsDatabase, understood, Schema, State, Table, Trees, same_name, Index, Command, DropIndex, Nothing, no_two, first_tables, second_tables, least_table, least_tree, urgents_table, urgents_tree}
+use Rattle.books_schema.specs.Words.{IsDatabase, understood, Schema, State, Table, Trees, same_name, Index, Command, DropIndex, Nothing, no_two, first_tables, second_tables, least_table, urgents_table}
 use Rattle.books_schema.specs.Indexing.{plan}
 use Rattle.books_schema.specs.Layouts.{key_at, PlainIndex, is_of}
 use Rattle.books_schema.specs.declared.older.OlderBooks.{OlderBooks}
@@ -19,8 +19,8 @@ older_tables Second = second_tables
 
 -- those of the newest books that they lack
 abbrev pub lacking_tables : OlderBooks → List Table
-lacking_tables First = least_table least_tree ∷ urgents_table urgents_tree ∷ []
-lacking_tables Second = urgents_table urgents_tree ∷ []
+lacking_tables First = least_table ∷ urgents_table ∷ []
+lacking_tables Second = urgents_table ∷ []
 
 -- the indexes of the keys of the tables of schema 1
 abbrev pub first_keys : List Index

@@ -14,8 +14,9 @@ use values::{Gtin, Lot, LotId, Name};
 pub struct Reserved;
 
 impl Mapped for Reserved {
+    ghost use Rattle.std.specs.Prelude.{refl};
     ghost use Rattle.table_words.specs.Typed.{reserved_mapping};
-    ghost use Rattle.tables.specs.Reserved.{reserved, reserved_mapped, reserved_laws};
+    ghost use Rattle.tables.specs.Reserved.{reserved, reserved_laws};
 
     type Row = ReservedRow;
 
@@ -27,7 +28,7 @@ impl Mapped for Reserved {
 
     ghost described = { reserved };
 
-    ghost mapped = { reserved_mapped };
+    ghost mapped = { record { few = refl; cells = λ s. refl; has = λ r. refl; seen = λ r. refl; back = λ s. refl } };
 
     ghost mapped_laws = { reserved_laws };
 
