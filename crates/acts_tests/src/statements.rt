@@ -167,15 +167,16 @@ fn is_case<S: Alter>(
     }
 }
 
-// The stock of the first item is shown by so many statements, all of which read.
+// The stock of the item of a number is shown by so many statements, all of which read.
 fn is_shown_by<S: Alter>(
     rt: &impl Abort,
     alloc: Global,
     books: &mut Books<S>,
     counts: &Counts,
+    number: u64,
     reads: u64,
 ) {
-    let item = Gtin::new(gtin(rt, alloc, 0).as_bytes())
+    let item = Gtin::new(gtin(rt, alloc, number).as_bytes())
         .ok()
         .expect(rt, "a GTIN");
     let view = books.stock(&item).ok().expect(rt, "stock");
@@ -203,9 +204,11 @@ pub(crate) fn are_counted<S: Alter>(
     }
     counts.take();
     are_cases(rt, alloc, books, counts);
-    // What is reserved of the item, and all its lots. All else of it is known, and then these too.
-    is_shown_by(rt, alloc, books, counts, 2);
-    is_shown_by(rt, alloc, books, counts, 0);
+    // All that is reserved, and all lots of the item. All else of it is known, and then these too. Of another item only its lots
+    // are not.
+    is_shown_by(rt, alloc, books, counts, 0, 2);
+    is_shown_by(rt, alloc, books, counts, 0, 0);
+    is_shown_by(rt, alloc, books, counts, 1, 1);
 }
 
 #[test]

@@ -1,5 +1,5 @@
 -- What older tables come to.
-use Rattle.audits.proofs.Words.{◌≡◌, ◌≢◌, ℕ, true, refl, List, Some, None, Option, Result, inl, inr, sym, ap, subst, ◌∙◌, ◌↔◌, ℤ, IfOk, IfErr, Ok, Ghosts, Database, Held, state, State, IsUnchanged, Trees, MetaRow, IsReady, Goes, tables_in, meta_at, with_meta, AreTyped, AreTypedAt, TableFault, Foreign, if_err, IsFilled, HasRow, HasDayAt, IsRaised, OlderBooks, Found, Newest, Older, IsReadyAs, ComesTo, begins_older, day_of_row, Act, today, AreRowsAt, Fault, third_day, has_day, read_typed, rows_come, rows_came, Finding, Sound, Differs, Unnumbered, Unspelled, Refused, IsBegunOver, AreShown, CannotBeRaised, AreOfNone, Says, SaysIn, IsFound, IsFinding, AreSoundBooks}
+use Rattle.audits.proofs.Words.{◌≡◌, ◌≢◌, ℕ, true, refl, List, Some, None, Option, Result, inl, inr, sym, ap, subst, ◌∙◌, ◌↔◌, ℤ, IfOk, IfErr, Ok, Ghosts, Database, Held, state, State, IsUnchanged, Trees, MetaRow, IsReady, Goes, tables_in, meta_at, with_meta, AreTyped, AreTypedAt, TableFault, Foreign, if_err, IsWritten, HasRow, HasDayAt, IsRaised, OlderBooks, Found, Newest, Older, IsReadyAs, ComesTo, begins_older, day_of_row, Act, today, AreRowsAt, Fault, third_day, has_day, read_typed, rows_come, rows_came, Finding, Sound, Differs, Unnumbered, Unspelled, Refused, IsBegunOver, AreShown, CannotBeRaised, AreOfNone, Says, SaysIn, IsFound, IsFinding, AreSoundBooks}
 use Rattle.store.specs.Books.{AreRowsOf}
 use Rattle.audits.specs.declared.finding.Finding.TheVariants.{Untyped}
 
@@ -40,11 +40,11 @@ raised_there r old mid row same has h = if_err r (λ e. e ≡ Foreign → (versi
     let there : Some row ≡ None = sym has.found ∙ ap (λ (d : Database). meta_at 3 d.trees) (sym same.0.now_is) ∙ none is 3 in
     cc)
 
-pub shown_brought : (older : OlderBooks) (base : Trees) (new : State) → IsFilled older base new → AreShown (Older older) base new
+pub shown_brought : (older : OlderBooks) (base : Trees) (new : State) → IsWritten older base new → AreShown (Older older) base new
 shown_brought older base new it = record {
-  ready = it.written.ready;
-  are = it.written.brought;
-  rows = come_both (Older older) base new.now.trees it.written.brought;
+  ready = it.ready;
+  are = it.brought;
+  rows = come_both (Older older) base new.now.trees it.brought;
 }
 
 -- a transaction that was just begun over books

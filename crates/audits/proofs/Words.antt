@@ -38,7 +38,7 @@ pub use Rattle.keyed_rows.specs.Reads.{Finds}
 pub use Rattle.tables.specs.Cards.{cards, cards_laws}
 pub use Rattle.tables.specs.Meta.{meta}
 pub use Rattle.tables.specs.Repeats.{repeats, repeats_laws}
-pub use Rattle.books_schema.specs.Bringing.{IsFilled}
+pub use Rattle.books_schema.specs.Bringing.{IsWritten}
 pub use Rattle.books_schema.specs.Opening.{IsReadyAs, ComesTo, IsOfNone}
 pub use Rattle.books_schema.specs.Settling.{HasRow, HasDayAt, IsRaised}
 pub use Rattle.books_schema.specs.declared.older.OlderBooks.{OlderBooks}

@@ -11,10 +11,10 @@ use crate::one_table::{Told, compare};
 use sqlite::{Alter, Transaction};
 use std::alloc::Global;
 use table_words::error::TableFault;
-use whole_tables::{Compared, Half, Halved, are_same, half_rows};
+use whole_tables::{Half, Halved, are_same, half_rows};
 
 /// Whether the two have the same rows in this half of the table, in the same order.
-fn half_alike<T: Compared + Halved, S: Alter, M: Alter>(
+fn half_alike<T: Halved, S: Alter, M: Alter>(
     alloc: Global,
     books: &mut Transaction<'_, S>,
     replayed: &mut Transaction<'_, M>,
@@ -38,7 +38,7 @@ fn half_alike<T: Compared + Halved, S: Alter, M: Alter>(
 }
 
 /// Whether the two have the same rows in both halves, in the same order.
-fn halves_alike<T: Compared + Halved, S: Alter, M: Alter>(
+fn halves_alike<T: Halved, S: Alter, M: Alter>(
     alloc: Global,
     books: &mut Transaction<'_, S>,
     replayed: &mut Transaction<'_, M>,
@@ -56,7 +56,7 @@ fn halves_alike<T: Compared + Halved, S: Alter, M: Alter>(
 
 /// The first row of the table that the two have not alike. It is read whole only where a half differs, or has its rows in
 /// another order. `middle` is a rowid about which the table is halved.
-pub(crate) fn compare_halves<T: Compared + Halved, S: Alter, M: Alter>(
+pub(crate) fn compare_halves<T: Halved, S: Alter, M: Alter>(
     alloc: Global,
     books: &mut Transaction<'_, S>,
     replayed: &mut Transaction<'_, M>,

@@ -9,13 +9,13 @@ use crate::finding::Unread;
 use sqlite::{Alter, Transaction};
 use std::alloc::Global;
 use table_words::error::TableFault;
-use whole_tables::{Compared, Entire, RowKey, all_rows, first_difference};
+use whole_tables::{Entire, RowKey, all_rows, first_difference};
 
 /// What comparing tells: a row that differs, or none.
 pub(crate) type Told = Result<Option<RowKey>, Unread>;
 
 /// The first row of the table that the two have not alike.
-pub(crate) fn compare<T: Compared + Entire, S: Alter, M: Alter>(
+pub(crate) fn compare<T: Entire, S: Alter, M: Alter>(
     alloc: Global,
     books: &mut Transaction<'_, S>,
     replayed: &mut Transaction<'_, M>,

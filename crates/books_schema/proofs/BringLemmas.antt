@@ -1,32 +1,32 @@
 -- What bringing older books up makes of their tables.
-use Rattle.books_schema.proofs.Words.{◌≡◌, inl, inr, ℕ, ℤ, Bool, true, false, Option, Some, None, List, [], ◌∷◌, ◌++◌, ◌||◌, map, filter, drop, cond, refl, sym, ap, subst, ◌∙◌, ◌↔◌, if◌then◌else◌, option_map, find, bytes_eq, AllByRecursion, list_all, list_any, cases_Bool, bytes_eq-Decides, Database, Held, state, column, Schema, State, IsUnchanged, Table, Trees, created, IsSound, all_both, all_weaker, all-filter, all-append, Ghosts, with_least, asking_none, ItemRow, LeastRow, MetaRow, each_written, typed, is_the_number, IsRows, schema_with, the_tables, least_table, least_tree, urgents_table, urgents_tree, meta_tree, is_harmless, IsReady, Goes, is_stored_row, Tables, tables_in, with_meta, with_least_row, is_meta_at, meta_in, same_meta, meta_key, meta_at, item_mapping, least_mapping, urgent_mapping, Rule, rule_for, first_rules, second_rules, Keeps, AreTyped, AreTypedAt, tables_same, front, as_brought, older_tables_in, AreOlderTyped, AreFillersTyped, AreOlderRows, IsOlderReady, IsOlder, HasRoom, row_of, AsksNone, Fills, IsWritten, IsFilled, Makes, IsGrown, HasIndexes, IsIndexed, number, older_tables, lacking_tables, older_with, KeepsOlderRows, HasOurs, OlderBooks, First, Second, HasDayAt, HasRow, CREATE_LEAST, CREATE_URGENTS}
+use Rattle.books_schema.proofs.Words.{◌≡◌, inl, inr, ℕ, ℤ, Bool, true, false, Option, Some, None, List, [], ◌∷◌, ◌++◌, ◌||◌, map, filter, drop, cond, refl, sym, ap, subst, ◌∙◌, ◌↔◌, if◌then◌else◌, option_map, find, bytes_eq, AllByRecursion, list_all, list_any, cases_Bool, bytes_eq-Decides, Database, Held, state, column, Schema, State, IsUnchanged, Table, Trees, created, IsSound, all_both, all_weaker, all-filter, all-append, Ghosts, with_least, asking_none, ItemRow, LeastRow, MetaRow, each_written, typed, is_the_number, IsRows, schema_with, the_tables, least_table, urgents_table, meta_table, is_harmless, IsReady, Goes, is_stored_row, Tables, tables_in, with_meta, with_least_row, is_meta_at, meta_in, same_meta, meta_key, meta_at, item_mapping, least_mapping, urgent_mapping, Rule, rule_for, first_rules, second_rules, Keeps, AreTyped, AreTypedAt, front, as_brought, older_tables_in, AreOlderTyped, AreFillersTyped, AreOlderRows, IsOlderReady, IsOlder, HasRoom, row_of, AsksNone, Fills, IsWritten, Makes, IsGrown, number, older_tables, lacking_tables, older_with, KeepsOlderRows, HasOurs, OlderBooks, First, Second, HasDayAt, HasRow, CREATE_LEAST, CREATE_URGENTS}
 use Rattle.sqlite.specs.Listing.{understood}
 use Rattle.sqlite.specs.Order.{Row}
 use Rattle.sqlite_tied.specs.Compute.{everything}
-use Rattle.books_schema.proofs.SettleLemmas.{each_itself, typed_then}
+use Rattle.books_schema.proofs.SettleLemmas.{each_itself}
 
 -- ---- the tables that they lack
 
 -- schema 1 with the table of schema 2
 abbrev least_schema : Schema
-least_schema = created (older_with First []) (least_table 0)
+least_schema = created (older_with First []) (record least_table { tree = 0 })
 
-pub least_added : Makes (older_with First []) CREATE_LEAST.now (least_table 0)
+pub least_added : Makes (older_with First []) CREATE_LEAST.now (record least_table { tree = 0 })
 unfolding understood everything
 least_added = (refl, refl, refl, refl, (refl, refl))
 
-pub urgents_added : Makes least_schema CREATE_URGENTS.now (urgents_table 0)
+pub urgents_added : Makes least_schema CREATE_URGENTS.now (record urgents_table { tree = 0 })
 unfolding understood everything
 urgents_added = (refl, refl, refl, refl, (refl, refl))
 
-pub urgents_behind : Makes (older_with Second []) CREATE_URGENTS.now (urgents_table 0)
+pub urgents_behind : Makes (older_with Second []) CREATE_URGENTS.now (record urgents_table { tree = 0 })
 unfolding understood everything
 urgents_behind = (refl, refl, refl, refl, (refl, refl))
 
 -- the newest schema as it comes of theirs
 abbrev pub reached : OlderBooks → Schema
-reached First = created least_schema (urgents_table 0)
-reached Second = created (older_with Second []) (urgents_table 0)
+reached First = created least_schema (record urgents_table { tree = 0 })
+reached Second = created (older_with Second []) (record urgents_table { tree = 0 })
 
 reached_harmless : (older : OlderBooks) → list_all is_harmless (reached older).indexes ≡ true
 unfolding Rattle.std.specs.Fmt.digits
@@ -80,13 +80,13 @@ grown_room older base s rows made =
 -- ---- the row of `meta`
 
 -- the day hangs on the rows of `meta` alone
-pub same_day : (version : ℕ) (a b : Trees) (day : ℤ) → a meta_tree ≡ b meta_tree → HasDayAt version a day → HasDayAt version b day
+pub same_day : (version : ℕ) (a b : Trees) (day : ℤ) → a meta_table.tree ≡ b meta_table.tree → HasDayAt version a day → HasDayAt version b day
 same_day version a b day same has = record {
   typed = subst (λ (rows : List Row). AllByRecursion (λ r. is_meta_at version r ≡ true) (filter (λ r. is_the_number 1 (column r 0)) rows)) same has.typed;
   found = subst (λ (rows : List Row). option_map (λ (m : MetaRow). m.day) (find (λ s. same_meta 1 (meta_key s)) (typed (is_meta_at version) meta_in rows)) ≡ Some day) same has.found;
 }
 
-pub meta_kept : (older : OlderBooks) (old new : Trees) → KeepsOlderRows older old new → new meta_tree ≡ old meta_tree
+pub meta_kept : (older : OlderBooks) (old new : Trees) → KeepsOlderRows older old new → new meta_table.tree ≡ old meta_table.tree
 meta_kept First old new kept = kept.0
 meta_kept Second old new kept = kept.0
 
@@ -186,10 +186,10 @@ none_typed : (trees : Trees) (rule : Rule) → trees rule.tree ≡ [] → Keeps 
 none_typed trees rule none = subst (AllByRecursion (λ r. rule.is r ≡ true)) (sym none) tt
 
 abbrev least_rule : Rule
-least_rule = rule_for least_tree least_mapping
+least_rule = rule_for least_table.tree least_mapping
 
 abbrev urgent_rule : Rule
-urgent_rule = rule_for urgents_tree urgent_mapping
+urgent_rule = rule_for urgents_table.tree urgent_mapping
 
 typed_before : (older : OlderBooks) (trees : Trees) → AllByRecursion (IsEmpty trees) (lacking_tables older) → AreOlderTyped older trees → AreTypedAt (number older) trees
 typed_before First trees none are =
@@ -228,20 +228,6 @@ same_room older base old new room same = record {
   kept = subst (λ (d : Database). KeepsOlderRows older base d.trees) (sym same.0.now_is) room.kept;
   empty = subst (λ (d : Database). AllByRecursion (IsEmpty d.trees) (lacking_tables older)) (sym same.0.now_is) room.empty;
   inside = same.0.mode ∙ room.inside;
-}
-
-pub filled : (older : OlderBooks) (base : Trees) (mid new : State) → IsWritten older base mid → IsIndexed mid new → HasIndexes new.now.schema → IsFilled older base new
-filled older base mid new it made indexes = record {
-  written = record {
-    ready = made.ready;
-    brought = record {
-      read = it.brought.read;
-      tables = tables_same mid.now.trees new.now.trees made.rows ∙ it.brought.tables;
-      typed = typed_then (AreOlderTyped older base) mid.now.trees new.now.trees made.rows it.brought.typed;
-    };
-    inside = made.mode ∙ it.inside;
-  };
-  indexes = indexes;
 }
 
 -- ---- the transaction

@@ -1,5 +1,5 @@
 -- What making the tables of the books leaves in a database that has nothing.
-use Rattle.books_schema.proofs.Words.{◌≡◌, IsTrue, true, [], Ok, Err, Result, OnOk, refl, sym, ap, subst, ◌∙◌, AllByRecursion, IsSound, Trees, Held, state, State, IsLive, all_weaker, the_tables, schema_0, IsRows, MetaRow, BinRow, tables_in, no_rows, with_meta, with_bin, the_rules, Keeps, AreTyped, Goes, tables_same, typed_same, IsVoid, Holds, first_rows, IsGrown, IsIndexed}
+use Rattle.books_schema.proofs.Words.{◌≡◌, IsTrue, true, [], Ok, Err, Result, OnOk, refl, sym, ap, subst, ◌∙◌, AllByRecursion, IsSound, Trees, Held, state, State, IsLive, all_weaker, the_tables, schema_0, IsRows, MetaRow, BinRow, tables_in, no_rows, with_meta, with_bin, the_rules, Keeps, AreTyped, Goes, tables_same, IsVoid, Holds, first_rows, IsGrown}
 use Rattle.sqlite.specs.Store.{Ghosts}
 use Rattle.books_schema.proofs.Texts.{the_schema, the_harmless}
 
@@ -32,13 +32,13 @@ grown_holds base s made =
       inside = made.inside;
     }
 
--- two rows in the empty tables, and then the indexes
-pub filled : (meta : MetaRow) (bin : BinRow) (made put both last : State) → Holds no_rows made → Goes (with_meta meta) made put → Goes (with_bin bin) put both → IsIndexed both last → Holds (first_rows meta bin) last
-filled meta bin made put both last none p q r = record {
-  ready = r.ready;
-  tables = tables_same both.now.trees last.now.trees r.rows ∙ q.tables ∙ ap (with_bin bin) (p.tables ∙ ap (with_meta meta) none.tables);
-  typed = typed_same both.now.trees last.now.trees r.rows (q.typed (p.typed none.typed));
-  inside = r.mode ∙ q.mode ∙ p.mode ∙ none.inside;
+-- two rows in the empty tables
+pub filled : (meta : MetaRow) (bin : BinRow) (made put last : State) → Holds no_rows made → Goes (with_meta meta) made put → Goes (with_bin bin) put last → Holds (first_rows meta bin) last
+filled meta bin made put last none p q = record {
+  ready = q.ready;
+  tables = q.tables ∙ ap (with_bin bin) (p.tables ∙ ap (with_meta meta) none.tables);
+  typed = q.typed (p.typed none.typed);
+  inside = q.mode ∙ p.mode ∙ none.inside;
 }
 
 -- a transaction that begins in a database that has nothing

@@ -1,7 +1,7 @@
 -- What the texts that drop the indexes mean in older books.
 use Rattle.books_schema.proofs.Words.{◌≡◌, ◌∙◌, ℕ, List, codes, refl, Option, None, Some, Ok, Result, true, false, length, AllByRecursion, position_from, same_name, Index, DropIndex, misses_table, compiled, dropped, Compiled, CompileError, NoSuchIndex, plan, PlainIndex, older_with, older_keys, our_indexes, is_index_of_books, drop_found, Drops, OlderBooks, First, Second, DROP_STAGED_BY_GTIN, DROP_RESERVED_BY_GTIN, DROP_SHIPLINES_OF_LOT, DROP_ORDERS_BY_STATE, understood}
 use Rattle.sqlite_tied.specs.Compute.{everything}
-use Rattle.books_schema.proofs.IndexTexts.{whole_of, understood_as}
+use Rattle.books_schema.proofs.TextsRead.{whole_of, understood_as}
 use Rattle.books_schema.proofs.DropLemmas.{named_by}
 
 -- what follows from where the name was found

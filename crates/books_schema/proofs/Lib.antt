@@ -5,8 +5,7 @@ pub mod GrowLemmas
 pub mod CreateLemmas
 pub mod OpenLemmas
 pub mod NeverRun
-pub mod IndexTexts
-pub mod IndexLemmas
+pub mod TextsRead
 pub mod SettleLemmas
 pub mod DropLemmas
 pub mod DropTexts

@@ -3,7 +3,7 @@ use Rattle.books_schema.proofs.Words.{◌≡◌, ◌≤◌, ◌∙◌, [], ap, a
 use Rattle.sqlite_trees.specs.declared.error.StoreError.TheVariants as stored
 use Rattle.sqlite_tied.specs.Compute.{everything}
 use Rattle.sqlite.specs.State.{IsNotRun}
-use Rattle.books_schema.proofs.IndexTexts.{understood_as}
+use Rattle.books_schema.proofs.TextsRead.{understood_as}
 
 begin_means : (schema : Schema) → compiled schema NEVER_RUN.now ≡ Ok (plan 5 Begin)
 unfolding everything

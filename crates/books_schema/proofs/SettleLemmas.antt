@@ -1,5 +1,5 @@
 -- The row of `meta`, read and put under the newest number, and making the indexes, in one transaction.
-use Rattle.books_schema.proofs.Words.{◌≡◌, ◌⊎◌, inl, inr, ℕ, ℤ, true, List, [], ◌∷◌, Result, Ok, Err, Option, None, Some, OnOk, IfOk, IfErr, refl, sym, ap, subst, ◌∙◌, ◌↔◌, option_map, find, AllByRecursion, IsErrAnd, IsOkAnd, SCHEMA_VERSION, MetaRow, all_both, all_weaker, Ghosts, Database, Held, state, State, IsUnchanged, Table, Trees, the_tables, IsReady, Goes, is_meta_at, tables_in, with_meta, meta_rows_rows, meta_at, AreTyped, AreTypedAt, TableFault, Foreign as TableForeign, tables_same, typed_same, KeepsRows, IsIndexed, HasRow, HasDayAt, IsNumbered, Numbers, THIRD}
+use Rattle.books_schema.proofs.Words.{◌≡◌, ◌⊎◌, inl, inr, ℕ, ℤ, true, List, [], ◌∷◌, Result, Ok, Err, Option, None, Some, OnOk, IfOk, IfErr, refl, sym, ap, subst, ◌∙◌, ◌↔◌, option_map, find, AllByRecursion, IsErrAnd, IsOkAnd, SCHEMA_VERSION, MetaRow, Ghosts, Database, Held, state, State, IsUnchanged, Table, Trees, the_tables, IsReady, Goes, is_meta_at, tables_in, with_meta, meta_rows_rows, meta_at, AreTyped, AreTypedAt, TableFault, Foreign as TableForeign, KeepsRows, HasRow, HasDayAt, IsNumbered, Numbers, THIRD}
 
 pub begun_state : {S : Type 0} (g : Ghosts S) (old begun : Held S) → begun ≡ record old { in_transaction = true } → state g begun ≡ record (state g old) { in_transaction = true }
 begun_state g old begun is = ap (state g) is
@@ -88,27 +88,3 @@ numbers_after old mid new same it = record {
   comes = subst (λ (d : Database). IsNumbered d.trees new.now.trees) same.0.now_is it.comes;
   mode = it.mode ∙ same.0.mode;
 }
-
--- rows that are kept are typed exactly where they were
-pub typed_then : (P : Type 0) (mid new : Trees) → KeepsRows mid new → P ↔ AreTyped mid → P ↔ AreTyped new
-typed_then P mid new rows both = (
-  λ p. typed_same mid new rows (both.0 p),
-  λ are. both.1 (typed_same new mid (all_weaker (λ t. new t.tree ≡ mid t.tree) (λ t. mid t.tree ≡ new t.tree) (λ t is. sym is) the_tables rows) are),
-)
-
--- indexes change nothing of it
-then_indexed : (old mid new : Trees) → KeepsRows mid new → IsNumbered old mid → IsNumbered old new
-then_indexed old mid new rows (inl kept) = inl (record {
-  day = kept.day;
-  has = kept.has;
-  rows = all_both (λ t. mid t.tree ≡ old t.tree) (λ t. new t.tree ≡ mid t.tree) (λ t. new t.tree ≡ old t.tree) (λ t one two. two ∙ one) the_tables kept.rows rows;
-})
-then_indexed old mid new rows (inr raised) = inr (record {
-  day = raised.day;
-  has = raised.has;
-  tables = tables_same mid new rows ∙ raised.tables;
-  typed = typed_then (AreTypedAt THIRD old) mid new rows raised.typed;
-})
-
-pub numbers_then : (old mid new : State) → Numbers old mid → IsIndexed mid new → Numbers old new
-numbers_then old mid new it made = record { ready = made.ready; comes = then_indexed old.now.trees mid.now.trees new.now.trees made.rows it.comes; mode = made.mode ∙ it.mode }

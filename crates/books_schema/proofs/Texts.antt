@@ -7,25 +7,25 @@ use Rattle.sqlite.specs.Listing.{understood}
 -- each of the texts makes its table, behind those before it
 abbrev InTurn : Schema → List (List ℕ × Table) → Type 0
 InTurn schema [] = ⊤
-InTurn schema (made ∷ rest) = Makes schema made.0 made.1 × InTurn (created schema made.1) rest
+InTurn schema (made ∷ rest) = let table : Table = record made.1 { tree = 0 } in Makes schema made.0 table × InTurn (created schema table) rest
 
 pub all_made : InTurn schema_0 (
-    (CREATE_META.now, meta_table 0)
-    ∷ (CREATE_ITEMS.now, items_table 0)
-    ∷ (CREATE_BINS.now, bins_table 0)
-    ∷ (CREATE_LOTS.now, lots_table 0)
-    ∷ (CREATE_RECALLS.now, recalls_table 0)
-    ∷ (CREATE_STOCK.now, stock_table 0)
-    ∷ (CREATE_ORDERS.now, orders_table 0)
-    ∷ (CREATE_LINES.now, lines_table 0)
-    ∷ (CREATE_STAGED.now, staged_table 0)
-    ∷ (CREATE_RESERVED.now, reserved_table 0)
-    ∷ (CREATE_SHIPMENTS.now, shipments_table 0)
-    ∷ (CREATE_SHIPLINES.now, shiplines_table 0)
-    ∷ (CREATE_CARDS.now, cards_table 0)
-    ∷ (CREATE_REPEATS.now, repeats_table 0)
-    ∷ (CREATE_LEAST.now, least_table 0)
-    ∷ (CREATE_URGENTS.now, urgents_table 0)
+    (CREATE_META.now, meta_table)
+    ∷ (CREATE_ITEMS.now, items_table)
+    ∷ (CREATE_BINS.now, bins_table)
+    ∷ (CREATE_LOTS.now, lots_table)
+    ∷ (CREATE_RECALLS.now, recalls_table)
+    ∷ (CREATE_STOCK.now, stock_table)
+    ∷ (CREATE_ORDERS.now, orders_table)
+    ∷ (CREATE_LINES.now, lines_table)
+    ∷ (CREATE_STAGED.now, staged_table)
+    ∷ (CREATE_RESERVED.now, reserved_table)
+    ∷ (CREATE_SHIPMENTS.now, shipments_table)
+    ∷ (CREATE_SHIPLINES.now, shiplines_table)
+    ∷ (CREATE_CARDS.now, cards_table)
+    ∷ (CREATE_REPEATS.now, repeats_table)
+    ∷ (CREATE_LEAST.now, least_table)
+    ∷ (CREATE_URGENTS.now, urgents_table)
     ∷ [])
 unfolding understood everything
 all_made = (

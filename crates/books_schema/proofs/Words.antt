@@ -55,7 +55,7 @@ pub use Rattle.commands.specs.declared.rows.MetaRow.{MetaRow}
 pub use Rattle.table_words.specs.Cells.{typed, is_the_number}
 pub use Rattle.table_words.specs.Found.{no_two}
 pub use Rattle.table_words.specs.Rows.{IsRows}
-pub use Rattle.table_words.specs.Schema.{schema_with, the_tables, least_table, least_tree, urgents_table, urgents_tree, meta_tree, is_harmless, schema_0, HasTables, staged_table, reserved_table, meta_table, items_table, bins_table, lots_table, recalls_table, stock_table, orders_table, lines_table, shipments_table, shiplines_table, cards_table, repeats_table, items_tree}
+pub use Rattle.table_words.specs.Schema.{schema_with, the_tables, least_table, urgents_table, meta_table, is_harmless, schema_0, HasTables, staged_table, reserved_table, items_table, bins_table, lots_table, recalls_table, stock_table, orders_table, lines_table, shipments_table, shiplines_table, cards_table, repeats_table}
 pub use Rattle.table_words.specs.Steps.{IsReady, Goes, ChangesNone}
 pub use Rattle.table_words.specs.Stored.{is_stored_row}
 pub use Rattle.table_words.specs.Typed.{Tables, tables_in, with_meta, with_least as with_least_row, is_meta_at, meta_in, same_meta, meta_key, meta_at, item_mapping, least_mapping, urgent_mapping, Rule, rule_for, first_rules, second_rules, Keeps, AreTyped, AreTypedAt, no_rows, with_bin, the_rules, meta_rows_rows}
@@ -67,19 +67,18 @@ pub use Rattle.table_words.proofs.StepLemmas.{tables_same, front, typed_same}
 pub use Rattle.table_words.proofs.WriteLemmas.{went, same_value}
 pub use Rattle.keyed_rows.specs.Writes.{each_written}
 pub use Rattle.keyed_rows.proofs.Writing.{same_error}
-pub use Rattle.books_schema.specs.Bringing.{as_brought, older_tables_in, AreOlderTyped, AreFillersTyped, AreOlderRows, IsOlderReady, IsOlder, HasRoom, row_of, AsksNone, Fills, IsWritten, IsFilled, AreItemsTyped, IsBrought}
+pub use Rattle.books_schema.specs.Bringing.{as_brought, older_tables_in, AreOlderTyped, AreFillersTyped, AreOlderRows, IsOlderReady, IsOlder, HasRoom, row_of, AsksNone, Fills, IsWritten, AreItemsTyped, IsBrought}
 pub use Rattle.books_schema.specs.Causes.{IsOfFault}
 pub use Rattle.books_schema.specs.Creation.{IsVoid, Holds, first_rows}
 pub use Rattle.books_schema.specs.Ending.{Ends}
 pub use Rattle.books_schema.specs.Growing.{Makes, IsGrown, AreMade, grown, added_by, added_above}
-pub use Rattle.books_schema.specs.Indexing.{HasIndexes, IsIndexed, plan, HasIndex, KeepsRows, Indexes, MakesOrFinds}
+pub use Rattle.books_schema.specs.Keeping.{KeepsRows}
 pub use Rattle.books_schema.specs.Layouts.{PlainIndex, is_of, table_at, BeginsWithTables, table_of, key_of}
-pub use Rattle.books_schema.specs.Older.{number, older_tables, lacking_tables, older_with, KeepsOlderRows, HasOurs, older_keys, last_tree, our_indexes, is_index_of_books, is_ours, same_named, AreOurs, lacks, HasFewer, drop_found, Drops, IsOlderSchema}
+pub use Rattle.books_schema.specs.Older.{plan, number, older_tables, lacking_tables, older_with, KeepsOlderRows, HasOurs, older_keys, last_tree, our_indexes, is_index_of_books, is_ours, same_named, AreOurs, lacks, HasFewer, drop_found, Drops, IsOlderSchema}
 pub use Rattle.books_schema.specs.Opening.{HasSchema, IsReadyAs, Tells, TellTables, IsClosed, HasDayIn, AreReadTyped, ComesTo}
 pub use Rattle.books_schema.specs.Orderly.{IsInOrder}
 pub use Rattle.books_schema.specs.Settling.{HasDayAt, HasRow, IsNumbered, Numbers, HasDay}
 pub use Rattle.books_schema.specs.declared.dropping.TheConstants.{DROP_STAGED_BY_GTIN, DROP_RESERVED_BY_GTIN, DROP_SHIPLINES_OF_LOT, DROP_ORDERS_BY_STATE}
-pub use Rattle.books_schema.specs.declared.indexing.TheConstants.{STAGED_BY_GTIN, RESERVED_BY_GTIN}
 pub use Rattle.books_schema.specs.declared.layouts.TableLayout.{TableLayout}
 pub use Rattle.books_schema.specs.declared.layouts.TheConstants.{CREATE_LEAST, CREATE_URGENTS, CREATE_META, CREATE_ITEMS, CREATE_BINS, CREATE_LOTS, CREATE_RECALLS, CREATE_STOCK, CREATE_ORDERS, CREATE_LINES, CREATE_STAGED, CREATE_RESERVED, CREATE_SHIPMENTS, CREATE_SHIPLINES, CREATE_CARDS, CREATE_REPEATS}
 pub use Rattle.books_schema.specs.declared.older.OlderBooks.{OlderBooks}

@@ -4,10 +4,9 @@ use Rattle.std.specs.List.{AllByRecursion}
 use Rattle.commands.specs.Schemas.{without_least, with_least, without_urgents}
 use Rattle.commands.specs.declared.rows.ItemRow.{ItemRow}
 use Rattle.commands.specs.declared.rows.LeastRow.{LeastRow}
-use Rattle.books_schema.specs.Words.{Database, IsDatabase, State, Trees, Index, AreRows, items_tree, IsReady, Tables, tables_in, meta_at, item_mapping, same_item, item_key, ItemKey, Rule, first_rules, second_rules, Keeps, AreTyped}
+use Rattle.books_schema.specs.Words.{Database, IsDatabase, State, Trees, Index, AreRows, items_table, IsReady, Tables, tables_in, meta_at, item_mapping, same_item, item_key, ItemKey, Rule, first_rules, second_rules, Keeps, AreTyped}
 use Rattle.table_words.specs.Rows.{IsRows}
 use Rattle.table_words.specs.Stored.{is_stored_row}
-use Rattle.books_schema.specs.Indexing.{HasIndexes}
 use Rattle.books_schema.specs.Older.{number, older_tables, lacking_tables, IsOlderSchema, KeepsOlderRows, HasOurs}
 use Rattle.books_schema.specs.declared.older.OlderBooks.{OlderBooks}
 use Rattle.books_schema.specs.declared.older.OlderBooks.TheVariants.{First, Second}
@@ -37,7 +36,7 @@ AreOlderTyped older trees = AllByRecursion (Keeps trees) (older_rules older)
 
 -- each of the items does
 abbrev pub AreItemsTyped : Trees → Type 0
-AreItemsTyped trees = AllByRecursion (λ r. is_stored_row item_mapping r ≡ true) (trees items_tree)
+AreItemsTyped trees = AllByRecursion (λ r. is_stored_row item_mapping r ≡ true) (trees items_table.tree)
 
 -- what is read of them beside the row of `meta` does: from schema 1 the items
 abbrev pub AreFillersTyped : OlderBooks → Trees → Type 0
@@ -93,8 +92,3 @@ pub record IsWritten (older : OlderBooks) (base : Trees) (s : State) : Type 0 wh
   pub ready : IsReady s.now
   pub brought : IsBrought older base s.now.trees
   pub inside : s.in_transaction ≡ true
-
--- and the indexes are there
-pub record IsFilled (older : OlderBooks) (base : Trees) (s : State) : Type 0 where
-  pub written : IsWritten older base s
-  pub indexes : HasIndexes s.now.schema

@@ -5,7 +5,7 @@ pub mod Opening
 pub mod Causes
 pub mod Layouts
 pub mod Growing
-pub mod Indexing
+pub mod Keeping
 pub mod Settling
 pub mod Older
 pub mod Bringing

@@ -1,8 +1,8 @@
 -- Books of the older schemas, and what is left of their schema without the indexes of the books.
 use Rattle.std.specs.Prelude.{◌≡◌, ℕ, Bool, true, not, ◌&&◌, List, [], ◌∷◌, ◌++◌, codes, length, Option, Some, None, Ok, bytes_eq, nat_lt}
 use Rattle.std.specs.List.{AllByRecursion, list_all, list_any, position_from}
-use Rattle.books_schema.specs.Words.{IsDatabase, understood, Schema, State, Table, Trees, same_name, Index, Command, DropIndex, Nothing, no_two, first_tables, second_tables, least_table, least_tree, urgents_table, urgents_tree}
-use Rattle.books_schema.specs.Indexing.{plan}
+use Rattle.books_schema.specs.Words.{IsDatabase, understood, Schema, State, Table, Trees, same_name, Index, Command, DropIndex, Nothing, no_two, first_tables, second_tables, least_table, urgents_table}
+use Rattle.sqlite_resolve.specs.declared.compiled.Compiled.{Compiled}
 use Rattle.books_schema.specs.Layouts.{key_at, PlainIndex, is_of}
 use Rattle.books_schema.specs.declared.older.OlderBooks.{OlderBooks}
 use Rattle.books_schema.specs.declared.older.OlderBooks.TheVariants.{First, Second}
@@ -19,8 +19,8 @@ older_tables Second = second_tables
 
 -- those of the newest books that they lack
 abbrev pub lacking_tables : OlderBooks → List Table
-lacking_tables First = least_table least_tree ∷ urgents_table urgents_tree ∷ []
-lacking_tables Second = urgents_table urgents_tree ∷ []
+lacking_tables First = least_table ∷ urgents_table ∷ []
+lacking_tables Second = urgents_table ∷ []
 
 -- the indexes of the keys of the tables of schema 1
 abbrev pub first_keys : List Index
@@ -53,7 +53,7 @@ last_tree Second = 27
 abbrev pub older_with : OlderBooks → List Index → Schema
 older_with older ours = record { tables = older_tables older; indexes = older_keys older ++ ours; views = [] }
 
--- the indexes of the books beside those of the keys, and the two that they had once, of the shipped lines of a lot and by the state of the orders
+-- the indexes that earlier programs made beside those of the keys: none is made any more
 abbrev pub our_indexes : List PlainIndex
 our_indexes =
     (codes "staged_by_gtin", 15, 2 ∷ [])
@@ -112,6 +112,10 @@ pub record HasFewer (older : OlderBooks) (base : Trees) (ours : List Index) (nam
   pub has : HasOurs older base left s
   pub gone : lacks name left ≡ true
   pub fewer : (other : List ℕ) → lacks other ours ≡ true → lacks other left ≡ true
+
+-- a statement of this length with this command, and nothing more
+abbrev pub plan : ℕ → Command → Compiled
+plan size command = record { command = command; returning = None; names = []; formats = []; start = 0; end = size; tail = size }
 
 -- the index that was found is dropped
 abbrev pub drop_found : Option ℕ → Command

@@ -3,7 +3,7 @@ use Rattle.std.specs.Prelude.{◌≡◌, ◌≤◌, ℤ, IsTrue, ⊤}
 use Rattle.books_schema.specs.Words.{Schema, Trees, HasTables, Ghosts, IsClean, doubt, Held, state, Database, State, IsReady}
 use Rattle.sqlite_catalog.specs.Listing.{IsSound}
 use Rattle.books_schema.specs.Bringing.{AreFillersTyped, IsOlderReady, IsBrought}
-use Rattle.books_schema.specs.Indexing.{KeepsRows}
+use Rattle.books_schema.specs.Keeping.{KeepsRows}
 use Rattle.books_schema.specs.Older.{number, IsOlderSchema, KeepsOlderRows}
 use Rattle.books_schema.specs.Settling.{HasDayAt, HasDay, IsNumbered}
 use Rattle.books_schema.specs.declared.ready_connection.Found.{Found}

@@ -3,7 +3,7 @@ use Rattle.std.specs.Prelude.{◌≡◌, ◌⊎◌, ◌↔◌, ℕ, ℤ, true, S
 use Rattle.std.specs.List.{AllByRecursion}
 use Rattle.commands.specs.declared.limits.TheConstants.{SCHEMA_VERSION}
 use Rattle.books_schema.specs.Words.{MetaRow, State, Trees, IsReady, Tables, tables_in, is_meta_at, meta_rows_rows, meta_at, AreTyped, AreTypedAt}
-use Rattle.books_schema.specs.Indexing.{KeepsRows}
+use Rattle.books_schema.specs.Keeping.{KeepsRows}
 use Rattle.books_schema.specs.declared.settling.TheConstants.{THIRD}
 
 -- in books of this schema number the row of `meta` keeps the rules of its values, and is this one

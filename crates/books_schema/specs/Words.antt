@@ -17,6 +17,6 @@ pub use Rattle.sqlite_trees.specs.declared.store.Store.{Ghosts}
 pub use Rattle.sqlite.proofs.Callers.{IsPlain, command_of, statement_of}
 pub use Rattle.commands.specs.declared.rows.MetaRow.{MetaRow}
 pub use Rattle.table_words.specs.Found.{AreRows, no_two}
-pub use Rattle.table_words.specs.Schema.{items_tree, schema_0, the_tables, schema_with, column, id_table, keyed_table, refers_to_none, first_tables, second_tables, least_table, least_tree, urgents_table, urgents_tree, HasTables}
+pub use Rattle.table_words.specs.Schema.{items_table, schema_0, the_tables, schema_with, column, id_table, keyed_table, refers_to_none, first_tables, second_tables, least_table, urgents_table, HasTables}
 pub use Rattle.table_words.specs.Steps.{IsReady}
 pub use Rattle.table_words.specs.Typed.{Tables, tables_in, meta_at, item_mapping, same_item, item_key, ItemKey, Rule, first_rules, second_rules, Keeps, AreTyped, no_rows, with_meta, with_bin, is_meta_at, meta_rows_rows, AreTypedAt}

@@ -15,8 +15,8 @@ use sqlite_value::keys::{Collation, Order};
 use sqlite_value::value::Value;
 use std::alloc::{AllocError, Global};
 
-/// The last tree of the tables and of their keys.
-const LAST_TREE: u32 = 29;
+/// The last tree of the tables and of their keys: that of the key of the last table.
+const LAST_TREE: u32 = ALL_TABLES[ALL_TABLES.len() - 1].tree + 1;
 
 /// What the names of the indexes of keys begin with, and no other.
 const AUTOMATIC: &[u8] = b"sqlite_autoindex_";

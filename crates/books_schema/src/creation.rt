@@ -1,4 +1,4 @@
-//! Makes the tables, the first rows and the indexes.
+//! Makes the tables and the first rows.
 
 ghost use Rattle.std.specs.Prelude.{◌≡◌, ◌≢◌, ◌↔◌, false, IsTrue, IfErr, IsErrOf, OnOk, OnErr};
 ghost use Rattle.sqlite.specs.State.{HasCleanDisk, Survives, KeepsCommit};
@@ -8,12 +8,10 @@ ghost use Rattle.table_words.specs.Typed.{tables_in, no_rows, AreTyped};
 ghost use Rattle.table_words.specs.Steps.{IsReady};
 ghost use Rattle.table_words.specs.declared.error.TableFault.TheVariants.{Foreign};
 ghost use Rattle.books_schema.specs.Creation.{IsVoid, Holds, first_rows};
-ghost use Rattle.books_schema.specs.Indexing.{HasIndexes};
 ghost use Rattle.books_schema.specs.Opening.{TellTables};
 
 use crate::checking::is_empty_schema;
 use crate::ending::finish;
-use crate::indexing::make_indexes;
 use crate::steps::{STEPS, run_steps};
 use commands::{BinRow, MetaRow};
 use sqlite::{Alter, Connection, Error, Transaction};
@@ -26,13 +24,14 @@ fn create_tables<S: Alter>(tx: &mut Transaction<'_, S>) -> Result<(), Error>
     ensures same_reference { tx.new.conn.ghost_name ≡ tx.old.conn.ghost_name }
     ensures done { HasCleanDisk (state S.Store tx.new.conn.now) → IsVoid (state S.Store tx.old.conn.now)
         → OnOk result (Holds no_rows (state S.Store tx.new.conn.now)) }
+    ensures was_open { HasCleanDisk (state S.Store tx.new.conn.now) → OnOk result (IsTrue (state S.Store tx.old.conn.now).is_open) }
     ensures kept { HasCleanDisk (state S.Store tx.new.conn.now) → KeepsCommit (state S.Store tx.old.conn.now) (state S.Store tx.new.conn.now) }
     ensures survives { Survives (state S.Store tx.old.conn.now) (state S.Store tx.new.conn.now) (λ _. ⊥) }
 {
     run_steps(tx, &STEPS, 0)
 }
 
-/// Makes the tables, puts the first rows, and makes the indexes.
+/// Makes the tables, and puts the first rows.
 fn fill<S: Alter>(
     tx: &mut Transaction<'_, S>,
     meta: &MetaRow,
@@ -40,7 +39,7 @@ fn fill<S: Alter>(
 ) -> Result<(), TableFault>
     ensures same_reference { tx.new.conn.ghost_name ≡ tx.old.conn.ghost_name }
     ensures done { HasCleanDisk (state S.Store tx.new.conn.now) → IsVoid (state S.Store tx.old.conn.now)
-        → OnOk result (Holds (first_rows meta.now bin.now) (state S.Store tx.new.conn.now) × HasIndexes (state S.Store tx.new.conn.now).now.schema) }
+        → OnOk result (Holds (first_rows meta.now bin.now) (state S.Store tx.new.conn.now)) }
     ensures was_open { HasCleanDisk (state S.Store tx.new.conn.now) → OnOk result (IsTrue (state S.Store tx.old.conn.now).is_open) }
     ensures kept { HasCleanDisk (state S.Store tx.new.conn.now) → KeepsCommit (state S.Store tx.old.conn.now) (state S.Store tx.new.conn.now) }
     ensures survives { Survives (state S.Store tx.old.conn.now) (state S.Store tx.new.conn.now) (λ _. ⊥) }
@@ -48,12 +47,10 @@ fn fill<S: Alter>(
 {
     create_tables(tx)?;
     put_meta(tx, meta)?;
-    put_bin(tx, bin)?;
-    make_indexes(tx)?;
-    Ok(())
+    put_bin(tx, bin)
 }
 
-/// Makes the tables of the books with their first rows and their indexes, all in one transaction of its own. `Foreign` where the database
+/// Makes the tables of the books with their first rows, all in one transaction of its own. `Foreign` where the database
 /// has a table, an index or a view, whoever made it: nothing is done then. `Store` where memory, the disk or a size does
 /// not suffice: the database is as it was.
 pub fn create<S: Alter>(
@@ -68,7 +65,6 @@ pub fn create<S: Alter>(
     ensures ready { HasCleanDisk (state S.Store conn.new) → OnOk result (IsReady (state S.Store conn.new).now) }
     ensures tables { HasCleanDisk (state S.Store conn.new) → OnOk result (tables_in (state S.Store conn.new).now.trees ≡ first_rows meta.now bin.now) }
     ensures typed { HasCleanDisk (state S.Store conn.new) → OnOk result (AreTyped (state S.Store conn.new).now.trees) }
-    ensures indexes { HasCleanDisk (state S.Store conn.new) → OnOk result (HasIndexes (state S.Store conn.new).now.schema) }
     ensures failed { HasCleanDisk (state S.Store conn.new) → IsTrue (state S.Store conn.new).is_open
         → OnErr result ((state S.Store conn.new).now ≡ (state S.Store conn.old).now) }
     ensures settled { HasCleanDisk (state S.Store conn.new) → IsTrue (state S.Store conn.new).is_open

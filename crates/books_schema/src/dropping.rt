@@ -1,4 +1,4 @@
-//! Drops the indexes of the books that stand in older books.
+//! Drops the indexes that earlier programs made, where they stand in older books.
 
 ghost use Rattle.std.specs.Prelude.{◌≡◌, List, [], ℕ, OnOk};
 ghost use Rattle.sqlite.specs.State.{HasCleanDisk, Survives, KeepsCommit};
@@ -30,7 +30,7 @@ fn drop_index<S: Alter>(tx: &mut Transaction<'_, S>, text: &str) -> Result<(), E
     Ok(())
 }
 
-/// Drops those of the indexes of the books that stand. The tables keep their rows, and with the indexes of their keys they
+/// Drops those of the indexes that stand. The tables keep their rows, and with the indexes of their keys they
 /// are then all that the schema has.
 pub fn drop_indexes<S: Alter>(tx: &mut Transaction<'_, S>) -> Result<(), Error>
     ensures same_reference { tx.new.conn.ghost_name ≡ tx.old.conn.ghost_name }

@@ -3,6 +3,7 @@
 use sqlite_schema::schema::Kind;
 
 /// A table: what makes it, and what it has to be. It is STRICT, and each column is NOT NULL.
+#[derive(Drop)]
 pub struct TableLayout {
     /// The statement that makes it.
     pub text: &'static str,

@@ -1,4 +1,4 @@
-//! The sixteen tables of the books: the schema, and one call for each statement.
+//! The tables of the books: the schema, and one call for each statement.
 //!
 //! A call works inside the caller's transaction. `Store` is a fault of memory, the disk or size; `Foreign`, a stored
 //! row with a value that no row has.
@@ -8,8 +8,7 @@ mod checking;
 pub mod creation;
 pub mod dropping;
 pub mod ending;
-pub mod indexing;
-mod layouts;
+pub mod layouts;
 pub mod migration;
 pub mod older;
 pub mod ready_connection;

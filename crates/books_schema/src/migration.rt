@@ -6,15 +6,13 @@ ghost use Rattle.sqlite.specs.Held.{state};
 ghost use Rattle.sqlite.specs.Tree.{Trees};
 ghost use Rattle.table_words.specs.Steps.{IsReady};
 ghost use Rattle.table_words.specs.declared.error.TableFault.TheVariants.{Foreign as ForeignTable};
-ghost use Rattle.books_schema.specs.Bringing.{AreItemsTyped, AreFillersTyped, IsOlder, IsOlderReady, HasRoom, AsksNone, Fills, IsBrought, IsWritten, IsFilled, row_of};
-ghost use Rattle.books_schema.specs.Indexing.{HasIndexes};
+ghost use Rattle.books_schema.specs.Bringing.{AreItemsTyped, AreFillersTyped, IsOlder, IsOlderReady, HasRoom, AsksNone, Fills, IsBrought, IsWritten, row_of};
 ghost use Rattle.books_schema.specs.Older.{number};
 ghost use Rattle.books_schema.specs.Opening.{TellTables};
 ghost use Rattle.books_schema.specs.Settling.{HasDayAt, HasRow};
 
 use crate::dropping::drop_indexes;
 use crate::ending::finish;
-use crate::indexing::make_indexes;
 use crate::older::OlderBooks;
 use crate::settling::meta_row_at;
 use crate::steps::{STEPS, run_steps};
@@ -158,7 +156,7 @@ fn write_new<S: Alter>(
     add_all::<Least, S>(tx, least)
 }
 
-/// Makes of the tables of these books those of the newest, with their indexes; the business day in them. `Foreign` where the
+/// Makes of the tables of these books those of the newest; the business day in them. `Foreign` where the
 /// row of `meta` is missing or has a value that no row has, or, from schema 1, an item has one.
 pub fn bring<S: Alter>(
     alloc: Global,
@@ -168,7 +166,7 @@ pub fn bring<S: Alter>(
     ensures same_reference { tx.new.conn.ghost_name ≡ tx.old.conn.ghost_name }
     ensures day { HasCleanDisk (state S.Store tx.new.conn.now) → (base : Trees) → IsOlder older base (state S.Store tx.old.conn.now) → IfOk result (HasDayAt (number older) base) }
     ensures done { HasCleanDisk (state S.Store tx.new.conn.now) → (base : Trees) → IsOlder older base (state S.Store tx.old.conn.now)
-        → OnOk result (IsFilled older base (state S.Store tx.new.conn.now)) }
+        → OnOk result (IsWritten older base (state S.Store tx.new.conn.now)) }
     ensures foreign { HasCleanDisk (state S.Store tx.new.conn.now) → (base : Trees) → IsOlder older base (state S.Store tx.old.conn.now)
         → IfErr result (λ e. e ≡ ForeignTable → (day : ℤ) → HasDayAt (number older) base day → ¬ AreFillersTyped older base) }
     ensures kept { HasCleanDisk (state S.Store tx.new.conn.now) → (base : Trees) → IsOlder older base (state S.Store tx.old.conn.now) → KeepsCommit (state S.Store tx.old.conn.now) (state S.Store tx.new.conn.now) }
@@ -177,7 +175,6 @@ pub fn bring<S: Alter>(
     make_room(tx, older)?;
     let (row, least) = read_old(alloc, tx, older)?;
     write_new(tx, &row, least.as_slice())?;
-    make_indexes(tx)?;
     Ok(row.day)
 }
 
@@ -198,7 +195,6 @@ pub fn bring_up<S: Alter>(
     ensures ready { HasCleanDisk (state S.Store conn.new) → IsOlderReady older (state S.Store conn.old).now → OnOk result (IsReady (state S.Store conn.new).now) }
     ensures brought { HasCleanDisk (state S.Store conn.new) → IsOlderReady older (state S.Store conn.old).now
         → OnOk result (IsBrought older (state S.Store conn.old).now.trees (state S.Store conn.new).now.trees) }
-    ensures indexes { HasCleanDisk (state S.Store conn.new) → IsOlderReady older (state S.Store conn.old).now → OnOk result (HasIndexes (state S.Store conn.new).now.schema) }
     ensures settled { HasCleanDisk (state S.Store conn.new) → OnOk result ((state S.Store conn.new).committed ≡ (state S.Store conn.new).now) }
     ensures failed { HasCleanDisk (state S.Store conn.new) → IsOlderReady older (state S.Store conn.old).now → (state S.Store conn.old).now ≡ (state S.Store conn.old).committed
         → IsTrue (state S.Store conn.new).is_open → OnErr result (((state S.Store conn.new).now ≡ (state S.Store conn.old).now) × ((state S.Store conn.new).committed ≡ (state S.Store conn.old).now)) }

@@ -114,8 +114,7 @@ fn is_of(found: &Index, name: &[u8], table: u32, columns: &[usize]) -> bool
         && !found.is_unique
 }
 
-/// Whether it is an index of the books beside those of the keys; that of the shipped lines of a lot and that by the state of
-/// the orders are no longer made.
+/// Whether it is an index that earlier programs made beside those of the keys. None is made any more.
 fn is_index_of_books(found: &Index) -> bool
     ensures { result ≡ is_index_of_books_lem found.now }
 {
@@ -162,14 +161,14 @@ fn are_once(found: &[Index]) -> bool
     true
 }
 
-/// Whether they are indexes of the books, behind the tables of these, each once.
+/// Whether they are such indexes, behind the tables of these books, each once.
 fn are_ours(found: &[Index], older: OlderBooks) -> bool
     ensures { IsTrue result ↔ AreOurs older found.now }
 {
     are_all_ours(found, older) && are_once(found)
 }
 
-/// Whether these are the indexes of the keys of these books, and then those of the books that stand.
+/// Whether these are the indexes of the keys of these books, and then some that earlier programs made.
 fn are_indexes(found: &[Index], older: OlderBooks) -> bool
     ensures { IsTrue result ↔ AreOlderIndexes older found.now }
 {
@@ -183,8 +182,8 @@ fn are_indexes(found: &[Index], older: OlderBooks) -> bool
     are_ours(&found[count..], older)
 }
 
-/// Whether the schema is that of these books: their tables with any of the indexes of the books, and nothing of another's
-/// making.
+/// Whether the schema is that of these books: their tables with any of the indexes that earlier programs made, and nothing of
+/// another's making.
 pub fn is_schema_of(alloc: Global, found: &Schema, older: OlderBooks) -> Result<bool, AllocError>
     ensures { IfOk result (λ yes. IsTrue yes ↔ IsOlderSchema older found.now) }
 {

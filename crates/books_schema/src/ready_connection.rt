@@ -9,7 +9,6 @@ ghost use Rattle.sqlite.specs.declared.error.ErrorCode.TheVariants.{OutOfMemory}
 ghost use Rattle.sqlite.specs.declared.error.Error.TheVariants.{SqliteFailure};
 ghost use Rattle.table_words.specs.declared.error.TableFault.TheVariants.{Foreign, Store};
 ghost use Rattle.books_schema.specs.Causes.{IsOfFault, HasCause};
-ghost use Rattle.books_schema.specs.Indexing.{HasIndexes};
 ghost use Rattle.books_schema.specs.Opening.{HasSchema, IsOfNone, IsReadyAs, HasDayIn, AreReadTyped, ComesTo, IsCome, IsLeftAs, TellTables, IsLeft, IsOpenAndSettled};
 ghost use Rattle.books_schema.specs.declared.ready_connection.Found.{Found};
 
@@ -136,8 +135,8 @@ pub fn ready<S: Orderly + Drop>(
     }
 }
 
-/// The business day that is stored, over books that were found: those with the newest tables get the newest number and the
-/// indexes that they lack, and others are brought up, in one transaction. `Foreign` where the row of `meta` is missing, has
+/// The business day that is stored, over books that were found: those with the newest tables get the newest number,
+/// and others are brought up, in one transaction. `Foreign` where the row of `meta` is missing, has
 /// another number or a value that no row has, or in books of schema 1 an item has one. After an error the tables are as
 /// they were.
 pub fn settle_found<S: Alter>(
@@ -150,7 +149,6 @@ pub fn settle_found<S: Alter>(
     ensures foreign { HasCleanDisk (state S.Store conn.new) → IsReadyAs found (state S.Store conn.old).now
         → IfErr result (λ e. e ≡ Foreign → (day : ℤ) → HasDayIn found (state S.Store conn.old).now.trees day → ¬ AreReadTyped found (state S.Store conn.old).now.trees) }
     ensures open { HasCleanDisk (state S.Store conn.new) → OnOk result (IsTrue (state S.Store conn.new).is_open) }
-    ensures indexes { HasCleanDisk (state S.Store conn.new) → IsReadyAs found (state S.Store conn.old).now → OnOk result (HasIndexes (state S.Store conn.new).now.schema) }
     ensures comes { HasCleanDisk (state S.Store conn.new) → IsReadyAs found (state S.Store conn.old).now → (state S.Store conn.old).now ≡ (state S.Store conn.old).committed
         → OnOk result (IsCome found (state S.Store conn.old).now.trees (state S.Store conn.new)) }
     ensures failed { HasCleanDisk (state S.Store conn.new) → IsReadyAs found (state S.Store conn.old).now → (state S.Store conn.old).now ≡ (state S.Store conn.old).committed

@@ -1,16 +1,14 @@
-//! The business day that is stored in books with the newest tables, their number, and the indexes that are missing.
+//! The business day that is stored in books with the newest tables, and their number.
 
 ghost use Rattle.std.specs.Prelude.{◌≡◌, ◌⊎◌, ℤ, None, Some, true, false, IsTrue, IsErrAnd, IsOkAnd, OnOk, OnErr, IfOk, IfErr, find};
 ghost use Rattle.sqlite.specs.State.{HasCleanDisk, Survives, IsUnchanged, KeepsCommit};
 ghost use Rattle.sqlite.specs.Held.{state};
 ghost use Rattle.table_words.specs.Steps.{IsReady};
 ghost use Rattle.table_words.specs.declared.error.TableFault.TheVariants.{Foreign as ForeignTable};
-ghost use Rattle.books_schema.specs.Indexing.{HasIndexes};
 ghost use Rattle.books_schema.specs.Opening.{TellTables};
 ghost use Rattle.books_schema.specs.Settling.{HasRow, HasDayAt, HasDay, IsNumbered, Numbers, IsSettledAt, IsStill};
 
 use crate::ending::finish;
-use crate::indexing::make_indexes;
 use commands::MetaRow;
 use label::BusinessDay;
 use sqlite::{Alter, Connection, Transaction};
@@ -91,35 +89,15 @@ fn stored_day<S: Alter>(
     }
 }
 
-/// Reads the business day, under the newest number then, and makes the indexes that are missing.
-fn day_and_indexes<S: Alter>(
-    alloc: Global,
-    tx: &mut Transaction<'_, S>,
-) -> Result<BusinessDay, TableFault>
-    ensures same_reference { tx.new.conn.ghost_name ≡ tx.old.conn.ghost_name }
-    ensures day { HasCleanDisk (state S.Store tx.new.conn.now) → IsReady (state S.Store tx.old.conn.now).now → IfOk result (HasDay (state S.Store tx.old.conn.now).now.trees) }
-    ensures foreign { HasCleanDisk (state S.Store tx.new.conn.now) → IsReady (state S.Store tx.old.conn.now).now
-        → IfErr result (λ e. e ≡ ForeignTable → (day : ℤ) → ¬ HasDay (state S.Store tx.old.conn.now).now.trees day) }
-    ensures done { HasCleanDisk (state S.Store tx.new.conn.now) → IsReady (state S.Store tx.old.conn.now).now
-        → OnOk result (Numbers (state S.Store tx.old.conn.now) (state S.Store tx.new.conn.now) × HasIndexes (state S.Store tx.new.conn.now).now.schema) }
-    ensures kept { HasCleanDisk (state S.Store tx.new.conn.now) → IsReady (state S.Store tx.old.conn.now).now → KeepsCommit (state S.Store tx.old.conn.now) (state S.Store tx.new.conn.now) }
-    ensures survives { Survives (state S.Store tx.old.conn.now) (state S.Store tx.new.conn.now) (λ _. ⊥) }
-{
-    let day = stored_day(alloc, tx)?;
-    make_indexes(tx)?;
-    Ok(day)
-}
-
 /// The business day that is stored; `Foreign` where the row of `meta` is missing or has a value that no row has. In the
-/// same transaction the row gets the newest number where it has 3, and the indexes are made that are missing. After an
-/// error the tables have the rows that they had; at `Ok` the connection is open.
+/// same transaction the row gets the newest number where it has 3. After an error the tables have the rows that they had;
+/// at `Ok` the connection is open.
 pub fn settle<S: Alter>(alloc: Global, conn: &mut Connection<S>) -> Result<BusinessDay, TableFault>
     requires outside { conn.old.in_transaction ≡ false }
     ensures day { HasCleanDisk (state S.Store conn.new) → IsReady (state S.Store conn.old).now → IfOk result (HasDay (state S.Store conn.old).now.trees) }
     ensures foreign { HasCleanDisk (state S.Store conn.new) → IsReady (state S.Store conn.old).now
         → IfErr result (λ e. e ≡ ForeignTable → (day : ℤ) → ¬ HasDay (state S.Store conn.old).now.trees day) }
     ensures open { HasCleanDisk (state S.Store conn.new) → OnOk result (IsTrue (state S.Store conn.new).is_open) }
-    ensures indexes { HasCleanDisk (state S.Store conn.new) → IsReady (state S.Store conn.old).now → OnOk result (HasIndexes (state S.Store conn.new).now.schema) }
     ensures comes { HasCleanDisk (state S.Store conn.new) → IsReady (state S.Store conn.old).now
         → OnOk result (IsSettledAt (state S.Store conn.old).now.trees (state S.Store conn.new)) }
     ensures failed { HasCleanDisk (state S.Store conn.new) → IsReady (state S.Store conn.old).now → (state S.Store conn.old).now ≡ (state S.Store conn.old).committed
@@ -129,6 +107,6 @@ pub fn settle<S: Alter>(alloc: Global, conn: &mut Connection<S>) -> Result<Busin
     ensures outside { conn.new.in_transaction ≡ false }
 {
     let mut tx = conn.transaction();
-    let day = day_and_indexes(alloc, &mut tx);
+    let day = stored_day(alloc, &mut tx);
     finish(tx, day)
 }

@@ -1,13 +1,13 @@
 //! The schema as a list of steps, each with the tables that it adds.
 
-ghost use Rattle.std.specs.Prelude.{◌≡◌, OnOk};
+ghost use Rattle.std.specs.Prelude.{◌≡◌, ◌⊎◌, [], IsTrue, OnOk};
 ghost use Rattle.sqlite.specs.Schema.{Schema};
 ghost use Rattle.sqlite.specs.Tree.{Trees};
 ghost use Rattle.sqlite.specs.State.{HasCleanDisk, Survives, KeepsCommit};
 ghost use Rattle.sqlite.specs.Held.{state};
 ghost use Rattle.books_schema.specs.Growing.{IsGrown, AreMade, grown, added_by, added_above};
 
-use crate::layouts::{FIRST_TABLES, LEAST, TableLayout, URGENTS};
+use crate::layouts::{self, TableLayout};
 use sqlite::{Alter, Error, Transaction};
 
 /// A step of the schema.
@@ -19,19 +19,19 @@ pub struct Step {
 }
 
 /// The steps of the schema, in the order of their numbers. The tables of all of them stand before any others, in this
-/// order; the indexes of the books are made behind the tables.
+/// order.
 pub const STEPS: [Step; 3] = [
     Step {
         version: 1,
-        tables: &FIRST_TABLES,
+        tables: &layouts::FIRST_TABLES,
     },
     Step {
         version: 2,
-        tables: &[LEAST],
+        tables: &[layouts::LEAST],
     },
     Step {
         version: 3,
-        tables: &[URGENTS],
+        tables: &[layouts::URGENTS],
     },
 ];
 
@@ -40,6 +40,7 @@ fn add_tables<S: Alter>(tx: &mut Transaction<'_, S>, tables: &[TableLayout]) -> 
     ensures same_reference { tx.new.conn.ghost_name ≡ tx.old.conn.ghost_name }
     ensures done { HasCleanDisk (state S.Store tx.new.conn.now) → (base : Trees) (first from : Schema) → AreMade from tables.now
         → IsGrown base first from (state S.Store tx.old.conn.now) → OnOk result (IsGrown base first (grown from tables.now) (state S.Store tx.new.conn.now)) }
+    ensures was_open { HasCleanDisk (state S.Store tx.new.conn.now) → OnOk result ((tables.now ≡ []) ⊎ IsTrue (state S.Store tx.old.conn.now).is_open) }
     ensures kept { HasCleanDisk (state S.Store tx.new.conn.now) → KeepsCommit (state S.Store tx.old.conn.now) (state S.Store tx.new.conn.now) }
     ensures survives { Survives (state S.Store tx.old.conn.now) (state S.Store tx.new.conn.now) (λ _. ⊥) }
 {
@@ -54,6 +55,7 @@ fn run_step<S: Alter>(tx: &mut Transaction<'_, S>, step: &Step, above: u64) -> R
     ensures same_reference { tx.new.conn.ghost_name ≡ tx.old.conn.ghost_name }
     ensures done { HasCleanDisk (state S.Store tx.new.conn.now) → (base : Trees) (first from : Schema) → AreMade from (added_by above step.now)
         → IsGrown base first from (state S.Store tx.old.conn.now) → OnOk result (IsGrown base first (grown from (added_by above step.now)) (state S.Store tx.new.conn.now)) }
+    ensures was_open { HasCleanDisk (state S.Store tx.new.conn.now) → OnOk result ((added_by above step.now ≡ []) ⊎ IsTrue (state S.Store tx.old.conn.now).is_open) }
     ensures kept { HasCleanDisk (state S.Store tx.new.conn.now) → KeepsCommit (state S.Store tx.old.conn.now) (state S.Store tx.new.conn.now) }
     ensures survives { Survives (state S.Store tx.old.conn.now) (state S.Store tx.new.conn.now) (λ _. ⊥) }
 {
@@ -73,6 +75,7 @@ pub fn run_steps<S: Alter>(
     ensures same_reference { tx.new.conn.ghost_name ≡ tx.old.conn.ghost_name }
     ensures done { HasCleanDisk (state S.Store tx.new.conn.now) → (base : Trees) (first from : Schema) → AreMade from (added_above above steps.now)
         → IsGrown base first from (state S.Store tx.old.conn.now) → OnOk result (IsGrown base first (grown from (added_above above steps.now)) (state S.Store tx.new.conn.now)) }
+    ensures was_open { HasCleanDisk (state S.Store tx.new.conn.now) → OnOk result ((added_above above steps.now ≡ []) ⊎ IsTrue (state S.Store tx.old.conn.now).is_open) }
     ensures kept { HasCleanDisk (state S.Store tx.new.conn.now) → KeepsCommit (state S.Store tx.old.conn.now) (state S.Store tx.new.conn.now) }
     ensures survives { Survives (state S.Store tx.old.conn.now) (state S.Store tx.new.conn.now) (λ _. ⊥) }
 {

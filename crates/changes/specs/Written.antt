@@ -9,31 +9,31 @@ use Rattle.row_rules.specs.declared.slice.Change.{Change}
 use Rattle.whole_tables.specs.Family.{Row, Key, described, look}
 use Rattle.whole_tables.specs.declared.key.TableName.{TableName}
 use Rattle.whole_tables.specs.declared.key.TheConstants.{TABLE_NAMES}
-use Rattle.whole_tables.specs.declared.key.TableName.TheVariants.{Meta, Items, Least, Bins, Lots, Recalls, Stock, Orders, Urgents, Lines, Staged, Reserved, Shipments, Shiplines, Cards, Repeats}
+use Rattle.whole_tables.specs.declared.key.TableName.TheVariants as table
 
 -- the rows that a change puts, and those that it drops
 abbrev pub puts : Change → (n : TableName) → List (Row n)
-puts c Meta = c.meta ∷ []
-puts c Items = c.put.items
-puts c Least = c.put.least
-puts c Bins = c.put.bins
-puts c Lots = c.put.lots
-puts c Recalls = c.put.recalls
-puts c Stock = c.put.stock
-puts c Orders = c.put.orders
-puts c Urgents = c.put.urgents
-puts c Lines = c.put.lines
-puts c Staged = c.put.staged
-puts c Reserved = c.put.reserved
-puts c Shipments = c.put.shipments
-puts c Shiplines = c.put.shiplines
-puts c Cards = c.put.cards
-puts c Repeats = []
+puts c table.Meta = c.meta ∷ []
+puts c table.Items = c.put.items
+puts c table.Least = c.put.least
+puts c table.Bins = c.put.bins
+puts c table.Lots = c.put.lots
+puts c table.Recalls = c.put.recalls
+puts c table.Stock = c.put.stock
+puts c table.Orders = c.put.orders
+puts c table.Urgents = c.put.urgents
+puts c table.Lines = c.put.lines
+puts c table.Staged = c.put.staged
+puts c table.Reserved = c.put.reserved
+puts c table.Shipments = c.put.shipments
+puts c table.Shiplines = c.put.shiplines
+puts c table.Cards = c.put.cards
+puts c table.Repeats = []
 
 abbrev pub drops : Change → (n : TableName) → List (Row n)
-drops c Stock = c.dropped.stock
-drops c Staged = c.dropped.staged
-drops c Reserved = c.dropped.reserved
+drops c table.Stock = c.dropped.stock
+drops c table.Staged = c.dropped.staged
+drops c table.Reserved = c.dropped.reserved
 drops c n = []
 
 -- the stage of an order is emptied, if there is one to empty: of all tables only `staged` loses rows that are not listed
@@ -42,7 +42,7 @@ stage_emptied None t = t
 stage_emptied (Some order) t = without_stage order t
 
 abbrev pub emptied : Change → TableName → Tables → Tables
-emptied c Staged t = stage_emptied c.dropped.stage t
+emptied c table.Staged t = stage_emptied c.dropped.stage t
 emptied c n t = t
 
 -- rows are dropped, and others are put
@@ -59,12 +59,12 @@ change_written c = each_written (table_written c) TABLE_NAMES
 
 -- the same where one statement ships all units of each line of an order, if there is one to fill
 abbrev pub table_made : Change → TableName → Option (List ℕ) → Tables → Tables
-table_made c Lines (Some order) t = lines_filled order t
+table_made c table.Lines (Some order) t = lines_filled order t
 table_made c n filled t = table_written c n t
 
 -- to put the lines of the change is to ship all units of each line of the order
 abbrev pub FillsLines : Change → List ℕ → Tables → Type 0
-FillsLines c order t = (k : Key Lines) → look Lines (table_written c Lines t) k ≡ look Lines (lines_filled order t) k
+FillsLines c order t = (k : Key table.Lines) → look table.Lines (table_written c table.Lines t) k ≡ look table.Lines (lines_filled order t) k
 
 -- a change, whole, made so; where its lines fill the order it is the change written
 unfoldable pub change_made : Change → Option (List ℕ) → Tables → Tables

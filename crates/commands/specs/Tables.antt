@@ -1,4 +1,4 @@
--- The sixteen tables of the books, each as a look-up by its primary key.
+-- The tables of the books, each as a look-up by its primary key.
 use Rattle.std.specs.Prelude.{ℕ, List, Option}
 use Rattle.values.specs.declared.lot.LotId.{LotId}
 use Rattle.commands.specs.declared.rows.MetaRow.{MetaRow}

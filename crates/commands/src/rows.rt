@@ -1,4 +1,4 @@
-// The rows of the sixteen tables of the books.
+// The rows of the tables of the books.
 
 use crate::limits::{CARD_NOTE_MAX, KEY_TEXT_MAX};
 use crate::{BinKind, Listed, Short};

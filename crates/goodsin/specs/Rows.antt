@@ -1,9 +1,8 @@
 -- What a row of a goods-in file says: its fields, each by the rule of its value.
-use Rattle.std.specs.Prelude.{ℕ, ◌+◌, ◌-◌, ◌*◌, ◌==◌, ◌&&◌, not, Bool, false, ℤ, List, [], ◌∷◌, codes, length, Option, Some, None, option_map, option_and_then, ⊤}
-use Rattle.std.specs.List.{list_all}
+use Rattle.std.specs.Prelude.{ℕ, ◌==◌, ◌&&◌, not, Bool, false, ℤ, List, codes, length, Option, Some, None, option_map, option_and_then, ⊤}
 use Rattle.std.specs.Result.{result_ok}
-use Rattle.std.specs.Str.{bytes_eq}
-use Rattle.values.specs.Values.{checked, first_is, is_between, is_digit, is_gtin, is_line_no, is_lot_text, is_name, is_qty}
+use Rattle.std.specs.Str.{bytes_eq, all_ascii_digits}
+use Rattle.values.specs.Values.{checked, first_is, is_between, is_gtin, is_line_no, is_lot_text, is_name, is_qty, number_from}
 use Rattle.values.specs.declared.lot.LotId.{LotId}
 use Rattle.label.specs.Expiry.{expiry_read}
 use Rattle.commands.specs.declared.key.Key.{Key}
@@ -31,14 +30,9 @@ is_header f =
     (length f == 7) && has_text 0 (codes "delivery") f && has_text 1 (codes "line") f && has_text 2 (codes "gtin") f
     && has_text 3 (codes "lot") f && has_text 4 (codes "expiry") f && has_text 5 (codes "bin") f && has_text 6 (codes "qty") f
 
--- the number that digits write, after those before it
-abbrev pub number_from : ℕ → List ℕ → ℕ
-number_from n [] = n
-number_from n (c ∷ cs) = number_from (n * 10 + (c - 48)) cs
-
 -- a number from 1 on: 1 to 7 digits, as no number of a row has more, without a zero before them
 abbrev pub is_number : List ℕ → Bool
-is_number s = is_between 1 7 (length s) && list_all is_digit s && not (first_is 48 s)
+is_number s = is_between 1 7 (length s) && all_ascii_digits s && not (first_is 48 s)
 
 abbrev pub number_of : List ℕ → Option ℕ
 number_of s = option_map (number_from 0) (checked is_number s)

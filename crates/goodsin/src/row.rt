@@ -1,14 +1,12 @@
-ghost use Rattle.std.specs.Prelude.{◌≡◌, ◌≤◌, length, IsTrue};
-ghost use Rattle.std.specs.List.{list_all};
-ghost use Rattle.values.specs.Values.{is_digit as is_digit_lem};
+ghost use Rattle.std.specs.Prelude.{◌≡◌, IsTrue};
 ghost use Rattle.label.specs.Days.{is_business_day};
 ghost use Rattle.csv.specs.Records.{fields_of};
-ghost use Rattle.goodsin.specs.Rows.{command_of as command_of_lem, expiry_at, gtin_at, has_text as has_text_lem, is_header as is_header_lem, is_number as is_number_lem, key_of as key_of_lem, line_at, lot_of as lot_of_lem, lot_text_at, name_at, number_at, number_from, number_of as number_of_lem, qty_at, receipt_of as receipt_of_lem};
+ghost use Rattle.goodsin.specs.Rows.{command_of as command_of_lem, expiry_at, gtin_at, has_text as has_text_lem, is_header as is_header_lem, is_number as is_number_lem, key_of as key_of_lem, line_at, lot_of as lot_of_lem, lot_text_at, name_at, number_at, number_of as number_of_lem, qty_at, receipt_of as receipt_of_lem};
 
 use commands::{Command, Key, Receipt};
 use csv::ByteRecord;
 use label::{Day, expiry_of};
-use values::{Gtin, LineNo, Lot, LotId, Name, Qty};
+use values::{Gtin, LineNo, Lot, LotId, Name, Qty, are_digits, written_number};
 
 /// The record is `delivery`, `line`, `gtin`, `lot`, `expiry`, `bin`, `qty`.
 pub(crate) fn is_header(fields: &ByteRecord) -> bool
@@ -122,7 +120,7 @@ fn number_of(text: &[u8]) -> Option<u64>
     ensures { result ≡ number_of_lem text.now }
 {
     if is_number(text) {
-        Some(number(text))
+        Some(written_number(text))
     } else {
         None
     }
@@ -135,21 +133,4 @@ fn is_number(text: &[u8]) -> bool
         [] => false,
         [first, ..] => text.len() <= 7 && are_digits(text) && *first != b'0',
     }
-}
-
-fn are_digits(text: &[u8]) -> bool
-    ensures { result ≡ list_all is_digit_lem text.now }
-{
-    text.iter().all(|c| b'0' <= *c && *c <= b'9')
-}
-
-fn number(digits: &[u8]) -> u64
-    requires { length digits.now ≤ 7 }
-    ensures { result ≡ number_from 0 digits.now }
-{
-    let mut n = 0;
-    for c in digits {
-        n = n * 10 + c.saturating_sub(b'0') as u64;
-    }
-    n
 }

@@ -57,6 +57,8 @@ pub record Described (X K : Type 0) : Type 0 where
   -- the values of the columns, and of those of the key
   pub cells : X → Row
   pub key_cells : K → Row
+  -- whether a row's numbers are within the bounds of their columns
+  pub fits : X → Bool
   -- its rows in the books, by key
   pub look : Tables → K → Option X
   pub set : (K → Option X) → Tables → Tables

@@ -40,6 +40,7 @@ planned m p = record {
   seen = λ v. m.of (m.columns.reads 0 v);
   cells = λ s. m.columns.cells (m.parts s);
   key_cells = p.key_cells;
+  fits = λ s. m.columns.fits (m.parts s);
   look = p.look;
   set = p.set;
   tests = tests_from p.key_places 0;

@@ -1,6 +1,9 @@
 -- The text of a row of the books: the name of its table, and the columns of its primary key.
-use Rattle.std.specs.Prelude.{ℕ, List, ◌++◌, map, nat_lt, ◌&&◌, if◌then◌else◌, codes, decimal}
-use Rattle.line_work.specs.Words.{RowKey, Meta, Item, Least, Bin, Lot, Recall, Stock, Order, Urgent, Line, Staged, Reserved, Shipment, Shipline, Card, Repeat}
+use Rattle.std.specs.Prelude.{ℕ, pos, List, [], ◌∷◌, ◌++◌, map, nat_lt, ◌&&◌, if◌then◌else◌, codes, decimal}
+use Rattle.sqlite_value.specs.declared.value.Value.{Value}
+use Rattle.sqlite_value.specs.declared.value.Value.TheVariants.{Int, Text}
+use Rattle.line_work.specs.Words.{RowKey, Repeat}
+use Rattle.whole_tables.specs.Differing.{place_of, table_of}
 use Rattle.whole_tables.specs.declared.key.TableName.{TableName}
 use Rattle.whole_tables.specs.Family.{described}
 
@@ -19,21 +22,18 @@ three_parted a b c = a ++ codes " " ++ b ++ codes " " ++ c
 abbrev pub shown_byte : ℕ → ℕ
 shown_byte c = if nat_lt 32 c && nat_lt c 127 then c else 63
 
+-- a column of a key: a text as it is, a number in digits
+abbrev pub cell_text : Value → List ℕ
+cell_text (Text t) = t
+cell_text (Int (pos n)) = decimal n
+cell_text v = []
+
+abbrev pub parted : List (List ℕ) → List ℕ
+parted [] = []
+parted (column ∷ []) = column
+parted (column ∷ next ∷ more) = column ++ codes " " ++ parted (next ∷ more)
+
 -- the columns of the primary key; that of the one row of `meta` is 1
 abbrev pub key_text : RowKey → List ℕ
-key_text Meta = codes "1"
-key_text (Item gtin) = gtin
-key_text (Least gtin) = gtin
-key_text (Bin name) = name
-key_text (Lot lot) = two_parted lot.gtin lot.lot
-key_text (Recall lot) = two_parted lot.gtin lot.lot
-key_text (Stock lot bin) = three_parted lot.gtin lot.lot bin
-key_text (Order order) = order
-key_text (Urgent order) = order
-key_text (Line order gtin) = two_parted order gtin
-key_text (Staged order lot) = three_parted order lot.gtin lot.lot
-key_text (Reserved order lot) = three_parted order lot.gtin lot.lot
-key_text (Shipment number) = decimal number
-key_text (Shipline number lot) = three_parted (decimal number) lot.gtin lot.lot
-key_text (Card lot act) = three_parted lot.gtin lot.lot (decimal act)
 key_text (Repeat k) = map shown_byte k
+key_text row = parted (map cell_text ((described (table_of row)).key_cells (place_of row).1))

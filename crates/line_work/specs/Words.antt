@@ -7,7 +7,7 @@ pub use Rattle.machine.specs.Acts.{Act}
 pub use Rattle.machine.specs.Once.{IsHistory, acts_after_file}
 pub use Rattle.books_schema.specs.declared.ready_connection.Leftover.{Leftover}
 pub use Rattle.whole_tables.specs.declared.key.RowKey.{RowKey}
-pub use Rattle.whole_tables.specs.declared.key.RowKey.TheVariants.{Repeat, Meta, Item, Least, Bin, Lot, Recall, Stock, Order, Urgent, Line, Staged, Reserved, Shipment, Shipline, Card}
+pub use Rattle.whole_tables.specs.declared.key.RowKey.TheVariants.{Repeat}
 pub use Rattle.store.specs.Books.{AreBooks, KeepsBooks, HoldsBooks, LeavesOnly, MayLeave}
 pub use Rattle.store.specs.Connected.{Connected}
 pub use Rattle.store.specs.Opening.{Found, HasSchema, IsOfNone, AreRowsAt, IsCleanLeft, AreFoundRows}

@@ -5,7 +5,7 @@ ghost use Rattle.sqlite.specs.State.{HasCleanDisk};
 ghost use Rattle.store.specs.Opening.{IsOfNone};
 ghost use Rattle.line_work.specs.Auditing.{IsAuditTold, IsFindingTold, IsLeftAs, IsUnaudited, row_fault as row_fault_lem, sound_line};
 
-use crate::row_text::{key_text, table_of, table_text};
+use crate::row_text::{place_text, table_text};
 use crate::shown::Shown;
 use audits::{Finding, audit};
 use books_schema::ready_connection::{Leftover, Orderly};
@@ -74,9 +74,10 @@ fn tell_finding<W: Write>(finding: &Finding, out: &mut W) -> Result<(), Fault>
 fn row_fault(row: &RowKey) -> AuditFault
     ensures { result ≡ row_fault_lem row.now }
 {
+    let (table, key) = place_text(row);
     AuditFault::Row {
-        table: table_text(table_of(row)),
-        key: key_text(row),
+        table: table_text(table),
+        key,
     }
 }
 

@@ -1,38 +1,14 @@
 //! The text of a row of the books: its table, and the columns of its primary key.
 
 ghost use Rattle.std.specs.Prelude.{◌≡◌, ◌+◌, ◌≤◌, length, map};
-ghost use Rattle.whole_tables.specs.Differing.{table_of as table_of_lem};
-ghost use Rattle.line_work.specs.Rows.{two_parted, three_parted, key_text as key_text_lem, shown_byte as shown_byte_lem, table_text as table_text_lem};
+ghost use Rattle.whole_tables.specs.Differing.{table_of};
+ghost use Rattle.line_work.specs.Rows.{two_parted, three_parted, key_text, shown_byte as shown_byte_lem, table_text as table_text_lem};
 
 use command_line::{ROW_KEY_MAX, TABLE_NAME_MAX};
 use commands::limits::KEY_TEXT_MAX;
 use commands::{Buffer, decimal_text};
 use values::{Gtin, Lot, LotId, Name, Text};
 use whole_tables::{RowKey, TableName};
-
-/// The table of a row.
-pub(crate) fn table_of(row: &RowKey) -> TableName
-    ensures { result ≡ table_of_lem row.now }
-{
-    match row {
-        RowKey::Meta => TableName::Meta,
-        RowKey::Item(_) => TableName::Items,
-        RowKey::Least(_) => TableName::Least,
-        RowKey::Bin(_) => TableName::Bins,
-        RowKey::Lot(_) => TableName::Lots,
-        RowKey::Recall(_) => TableName::Recalls,
-        RowKey::Stock(..) => TableName::Stock,
-        RowKey::Order(_) => TableName::Orders,
-        RowKey::Urgent(_) => TableName::Urgents,
-        RowKey::Line(..) => TableName::Lines,
-        RowKey::Staged(..) => TableName::Staged,
-        RowKey::Reserved(..) => TableName::Reserved,
-        RowKey::Shipment(_) => TableName::Shipments,
-        RowKey::Shipline(..) => TableName::Shiplines,
-        RowKey::Card(..) => TableName::Cards,
-        RowKey::Repeat(_) => TableName::Repeats,
-    }
-}
 
 /// The name of a table.
 pub(crate) fn table_text(name: TableName) -> Text<TABLE_NAME_MAX>
@@ -65,26 +41,39 @@ fn table_name(name: TableName) -> &'static [u8]
     }
 }
 
-/// The columns of the primary key of a row, parted by a space. A byte of an act's key that is no visible ASCII is `?`.
-pub(crate) fn key_text(row: &RowKey) -> Text<ROW_KEY_MAX>
-    ensures { result ≡ key_text_lem row.now }
+/// The table of a row, and the columns of its primary key, parted by a space. A byte of an act's key that is no visible
+/// ASCII is `?`.
+pub(crate) fn place_text(row: &RowKey) -> (TableName, Text<ROW_KEY_MAX>)
+    ensures { result ≡ (table_of row.now, key_text row.now) }
 {
     match row {
-        RowKey::Meta => one(b"1"),
-        RowKey::Item(gtin) | RowKey::Least(gtin) => one(gtin_bytes(gtin)),
-        RowKey::Bin(name) | RowKey::Order(name) | RowKey::Urgent(name) => one(name_bytes(name)),
-        RowKey::Lot(lot) | RowKey::Recall(lot) => two(gtin_bytes(&lot.gtin), lot_bytes(&lot.lot)),
-        RowKey::Stock(lot, bin) => of_lot(lot, name_bytes(bin)),
-        RowKey::Line(order, gtin) => two(name_bytes(order), gtin_bytes(gtin)),
-        RowKey::Staged(order, lot) | RowKey::Reserved(order, lot) => with_lot(
-            name_bytes(order),
-            lot,
+        RowKey::Meta => (TableName::Meta, one(decimal_text(1).as_bytes())),
+        RowKey::Item(gtin) => (TableName::Items, one(gtin_bytes(gtin))),
+        RowKey::Least(gtin) => (TableName::Least, one(gtin_bytes(gtin))),
+        RowKey::Bin(name) => (TableName::Bins, one(name_bytes(name))),
+        RowKey::Lot(lot) => (TableName::Lots, as_lot(lot)),
+        RowKey::Recall(lot) => (TableName::Recalls, as_lot(lot)),
+        RowKey::Stock(lot, bin) => (TableName::Stock, of_lot(lot, name_bytes(bin))),
+        RowKey::Order(order) => (TableName::Orders, one(name_bytes(order))),
+        RowKey::Urgent(order) => (TableName::Urgents, one(name_bytes(order))),
+        RowKey::Line(order, gtin) => (TableName::Lines, two(name_bytes(order), gtin_bytes(gtin))),
+        RowKey::Staged(order, lot) => (TableName::Staged, with_lot(name_bytes(order), lot)),
+        RowKey::Reserved(order, lot) => (TableName::Reserved, with_lot(name_bytes(order), lot)),
+        RowKey::Shipment(number) => (TableName::Shipments, one(decimal_text(*number).as_bytes())),
+        RowKey::Shipline(number, lot) => (
+            TableName::Shiplines,
+            with_lot(decimal_text(*number).as_bytes(), lot),
         ),
-        RowKey::Shipment(number) => one(decimal_text(*number).as_bytes()),
-        RowKey::Shipline(number, lot) => with_lot(decimal_text(*number).as_bytes(), lot),
-        RowKey::Card(lot, act) => of_lot(lot, decimal_text(*act).as_bytes()),
-        RowKey::Repeat(key) => shown(key),
+        RowKey::Card(lot, act) => (TableName::Cards, of_lot(lot, decimal_text(*act).as_bytes())),
+        RowKey::Repeat(key) => (TableName::Repeats, shown(key)),
     }
+}
+
+/// A lot alone.
+fn as_lot(lot: &LotId) -> Text<ROW_KEY_MAX>
+    ensures { result ≡ two_parted lot.now.gtin lot.now.lot }
+{
+    two(gtin_bytes(&lot.gtin), lot_bytes(&lot.lot))
 }
 
 /// A lot, and a column behind it.

@@ -15,7 +15,7 @@ pub use Rattle.commands.specs.Cards.{rest_after}
 pub use Rattle.commands.specs.Limits.{has_order_lines}
 pub use Rattle.commands.specs.Lists.{total, placed, in_order}
 pub use Rattle.commands.specs.Schemas.{asking_none}
-pub use Rattle.commands.specs.Sound.{is_sound, is_sound_key, is_order_line, are_lines, is_lot_id}
+pub use Rattle.commands.specs.Sound.{is_sound, is_sound_key, is_new_order, is_order_line, are_lines, is_lot_id}
 pub use Rattle.commands.specs.Spelling.{key_text}
 unfoldable pub use Rattle.commands.specs.Spelling.{spelling}
 pub use Rattle.commands.specs.declared.command.Adjustment.{Adjustment}

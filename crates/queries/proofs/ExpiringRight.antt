@@ -1,5 +1,5 @@
 -- What is read of the tables of a history are the rows by which lots that expire are shown.
-use Rattle.queries.proofs.Words.{◌≡◌, ℕ, Bool, true, List, [], refl, ap, sym, subst, ◌∙◌, Global, ◌||◌, ◌+◌, Option, Some, None, ℤ, Ok, Err, Vec, length, map, take, list_any, same_Some, same_text, LotId, Tables, UnknownLot, LotRow, MetaRow, StagedRow, StockRow, Act, IsHistory, is_lot, KnownLot, lots, lot_known, if_known, tables_of, meta_row, no_two, same_text_is, same_text_refl, is_lot_is, is_lot_refl, is_lot_turned, found_key, some_of_mapped, Rows, PAGE_MAX, page, expiring_lots, expiring_view, expiring_shown, has_key, with_keys, has_keys, once_keys, ItemKey, same_item, item_key, LeastKey, same_least, least_key, LotKey, same_lot, lot_key, RecallKey, same_recall, recall_key, StockKey, same_stock, stock_key, StagedKey, same_staged, staged_key, ReservedKey, same_reserved, reserved_key, is_among, items_of_lots, any_mapped, keys_read, same_cell_is, same_cell_refl, same_share_is, same_share_refl, rows_read, rows_as, among_names, once_names, sought, known_row, IsLotSeenLast, AreInHouse, is_item_on_page, AreOfLotsPage, lots_page_shown, take_map, page_of_more, lots_in_house, AreHouse, AreOfItems, AreExpiring, IsLotSeen, AreExpiringBehind, AreExpiringIn}
+use Rattle.queries.proofs.Words.{◌≡◌, ℕ, Bool, true, List, [], refl, ap, sym, subst, ◌∙◌, Global, ◌||◌, ◌+◌, Option, Some, None, ℤ, Ok, Err, Vec, length, map, take, list_any, same_Some, same_text, LotId, Tables, UnknownLot, LotRow, MetaRow, StagedRow, StockRow, Act, IsHistory, is_lot, KnownLot, lots, lot_known, if_known, tables_of, meta_row, no_two, same_text_is, same_text_refl, is_lot_is, is_lot_refl, is_lot_turned, found_key, some_of_mapped, Rows, PAGE_MAX, page, expiring_lots, expiring_view, expiring_shown, has_key, with_keys, has_keys, once_keys, ItemKey, same_item, item_key, least_key, LotKey, same_lot, lot_key, recall_key, StockKey, same_stock, stock_key, StagedKey, same_staged, staged_key, ReservedKey, same_reserved, reserved_key, is_among, items_of_lots, any_mapped, keys_read, same_cell_is, same_cell_refl, same_share_is, same_share_refl, rows_read, rows_as, among_names, once_names, sought, known_row, IsLotSeenLast, AreInHouse, is_item_on_page, AreOfLotsPage, lots_page_shown, take_map, page_of_more, lots_in_house, AreHouse, AreOfItems, AreExpiring, IsLotSeen, AreExpiringBehind, AreExpiringIn}
 
 -- What is read is what is asked for
 
@@ -97,10 +97,10 @@ module _ (first : ℤ) (acts : List Act) where
     of_page = record {
       items = rows_as {K = ItemKey} same_item item_key same_text_is same_text_refl wanted wanted wanted (λ g. true) t.item rows.items (λ g e. e) (λ g e. refl)
           (sought {K = ItemKey} same_item item_key same_text_is same_text_refl (λ k. k) t.item gtins wanted rows.items once told are.own);
-      least = rows_as {K = LeastKey} same_least least_key same_text_is same_text_refl wanted wanted wanted (λ g. true) t.least rows.least (λ g e. e) (λ g e. refl)
-          (sought {K = LeastKey} same_least least_key same_text_is same_text_refl (λ k. k) t.least gtins wanted rows.least once told are.asked);
-      recalls = rows_as {K = RecallKey} same_recall recall_key is_lot_is is_lot_refl (λ l. wanted l.gtin) (λ l. wanted l.gtin) (λ l. wanted l.gtin) (λ l. true) t.recall rows.recalls (λ l e. e) (λ l e. refl)
-          (sought {K = RecallKey} same_recall recall_key is_lot_is is_lot_refl (λ k. k.gtin) t.recall gtins wanted rows.recalls once told are.recalled);
+      least = rows_as {K = ItemKey} same_item least_key same_text_is same_text_refl wanted wanted wanted (λ g. true) t.least rows.least (λ g e. e) (λ g e. refl)
+          (sought {K = ItemKey} same_item least_key same_text_is same_text_refl (λ k. k) t.least gtins wanted rows.least once told are.asked);
+      recalls = rows_as {K = LotKey} same_lot recall_key is_lot_is is_lot_refl (λ l. wanted l.gtin) (λ l. wanted l.gtin) (λ l. wanted l.gtin) (λ l. true) t.recall rows.recalls (λ l e. e) (λ l e. refl)
+          (sought {K = LotKey} same_lot recall_key is_lot_is is_lot_refl (λ k. k.gtin) t.recall gtins wanted rows.recalls once told are.recalled);
       stock = rows_as {K = StockKey} same_stock stock_key same_cell_is same_cell_refl (λ k. true) (λ k. true) (λ k. wanted k.0.gtin) (λ k. true) (λ k. t.stock k.0 k.1) rows.stock (λ k e. refl) (λ k e. refl)
           (rows_read {K = StockKey} same_stock stock_key same_cell_is same_cell_refl (λ k. true) (λ k. t.stock k.0 k.1) rows.stock house.all_stock);
       staged = rows_as {K = StagedKey} same_staged staged_key same_share_is same_share_refl (λ k. true) (λ k. true) (λ k. wanted k.1.gtin) (λ k. true) (λ k. t.staged k.0 k.1) rows.staged (λ k e. refl) (λ k e. refl)

@@ -1,5 +1,5 @@
 -- What is read of the tables of a history are the rows by which items are shown.
-use Rattle.queries.proofs.Words.{◌≡◌, ℕ, true, not, List, [], ◌∷◌, refl, ap, sym, subst, ◌∙◌, Global, ◌+◌, Option, Some, None, option_map, ℤ, Ok, Err, Vec, length, map, take, list_any, same_Some, same_text, Tables, NewItem, UnknownItem, ItemRow, LeastRow, MetaRow, Act, IsHistory, item_named, if_known, tables_of, meta_row, no_two, and_both, same_text_is, same_text_refl, some_of_mapped, NAMES_MAX, items_behind, item_names_view, item_names_shown, ItemKey, same_item, item_key, LeastKey, same_least, least_key, is_among, AreLeast, any_mapped, and_true, rows_read, rows_as, sought, row_of_item, AreItems, is_named, AreAsked, take_map, page_of_more, items_page_shown, items_once, gtins_of, AreNamed, IsItemSeen, AreNamesBehind, AreNamesIn}
+use Rattle.queries.proofs.Words.{◌≡◌, ℕ, true, not, List, [], ◌∷◌, refl, ap, sym, subst, ◌∙◌, Global, ◌+◌, Option, Some, None, option_map, ℤ, Ok, Err, Vec, length, map, take, list_any, same_Some, same_text, Tables, NewItem, UnknownItem, ItemRow, LeastRow, MetaRow, Act, IsHistory, item_named, if_known, tables_of, meta_row, no_two, and_both, same_text_is, same_text_refl, some_of_mapped, NAMES_MAX, items_behind, item_names_view, item_names_shown, ItemKey, same_item, item_key, least_key, is_among, AreLeast, any_mapped, and_true, rows_read, rows_as, sought, row_of_item, AreItems, is_named, AreAsked, take_map, page_of_more, items_page_shown, items_once, gtins_of, AreNamed, IsItemSeen, AreNamesBehind, AreNamesIn}
 use Rattle.table_words.specs.Found as table
 
 -- What is read is what is asked for
@@ -76,8 +76,8 @@ module _ (first : ℤ) (acts : List Act) where
     asked : AreAsked acts last least
     unfolding tables_of
     asked =
-        rows_as {K = LeastKey} same_least least_key same_text_is same_text_refl (is_named acts last) (is_named acts last) (is_named acts last) (λ g. true) t.least least (λ g e. e) (λ g e. refl)
-        (sought {K = LeastKey} same_least least_key same_text_is same_text_refl (λ k. k) t.least gtins (is_named acts last) least once told are)
+        rows_as {K = ItemKey} same_item least_key same_text_is same_text_refl (is_named acts last) (is_named acts last) (is_named acts last) (λ g. true) t.least least (λ g e. e) (λ g e. refl)
+        (sought {K = ItemKey} same_item least_key same_text_is same_text_refl (λ k. k) t.least gtins (is_named acts last) least once told are)
 
   -- All of it
 

@@ -113,7 +113,7 @@ pub use Rattle.rows_in_memory.specs.OpenLines.{Entries, all_names, orders_at, ho
 pub use Rattle.rows_in_memory.proofs.KeysOnce.{has_keys, once_keys}
 pub use Rattle.rows_in_memory.proofs.NamesOnce.{names_once}
 pub use Rattle.table_words.specs.Found.{only_if}
-pub use Rattle.table_words.specs.Typed.{ItemKey, same_item, item_key, LeastKey, same_least, least_key, LotKey, same_lot, lot_key, RecallKey, same_recall, recall_key, StockKey, same_stock, stock_key, same_lot_id, same_card, card_key, StagedKey, same_staged, staged_key, ReservedKey, same_reserved, reserved_key, OrderKey, same_order, order_key, is_open_order, UrgentKey, same_urgent, urgent_key, LineKey, same_line, line_key, BinKey, same_bin, bin_key, ShipmentKey, same_shipment, shipment_key}
+pub use Rattle.table_words.specs.Typed.{ItemKey, same_item, item_key, least_key, LotKey, same_lot, lot_key, recall_key, StockKey, same_stock, stock_key, same_lot_id, same_card, card_key, StagedKey, same_staged, staged_key, ReservedKey, same_reserved, reserved_key, OrderKey, same_order, order_key, is_open_order, urgent_key, LineKey, same_line, line_key, BinKey, same_bin, bin_key, ShipmentKey, same_shipment, shipment_key}
 pub use Rattle.table_words.proofs.CellLemmas.{same_number, itself_number, same_lots, itself_lot}
 pub use Rattle.table_words.proofs.KeyLemmas.{first_row, itself_bytes}
 pub use Rattle.keyed_rows.specs.Ordered.{AreInOrder}

@@ -1,6 +1,6 @@
 -- The rows by which the lots in a bin are shown.
 use Rattle.std.specs.Prelude.{◌≡◌, ◌⊎◌}
-use Rattle.queries.specs.Words.{ℕ, ℤ, List, [], Option, Some, None, Result, Ok, Err, option_map, Vec, refl, ap, sym, ◌∙◌, Global, inl, inr, same_text, LotId, Tables, NewBin, Refusal, UnknownBin, UnknownLot, BinRow, ItemRow, LeastRow, LotRow, MetaRow, RecallRow, StockRow, AreStockIn, BinView, page, bin_view, bin_shown, Act, is_lot, KnownLot, bin_named, lot_known, if_known, tables_of, Rows, AreRows, ItemKey, same_item, item_key, RecallKey, same_recall, recall_key, with_keys, AreLotsOf, Each, AreLeast, items_of_lots, bin_and_more, known_row}
+use Rattle.queries.specs.Words.{ℕ, ℤ, List, [], Option, Some, None, Result, Ok, Err, option_map, Vec, refl, ap, sym, ◌∙◌, Global, inl, inr, same_text, LotId, Tables, NewBin, Refusal, UnknownBin, UnknownLot, BinRow, ItemRow, LeastRow, LotRow, MetaRow, RecallRow, StockRow, AreStockIn, BinView, page, bin_view, bin_shown, Act, is_lot, KnownLot, bin_named, lot_known, if_known, tables_of, Rows, AreRows, ItemKey, same_item, item_key, LotKey, same_lot, recall_key, with_keys, AreLotsOf, Each, AreLeast, items_of_lots, bin_and_more, known_row}
 use Rattle.queries.specs.ShownExpiring.{IsLotSeen, IsNoLot}
 
 -- the lots of stock, each once
@@ -16,7 +16,7 @@ pub record AreStockAndLots (b : List ℕ) (t : Tables) (lots : List LotRow) (sto
 pub record AreOfGoods (gtins : List (List ℕ)) (t : Tables) (items : List ItemRow) (least : List LeastRow) (recalls : List RecallRow) : Type 0 where
   pub own : Each (λ g found. AreRows {K = ItemKey} same_item item_key (λ k. same_text g k) t.item found) gtins items
   pub asked : AreLeast gtins t least
-  pub recalled : Each (λ g found. AreRows {K = RecallKey} same_recall recall_key (λ k. same_text g k.gtin) t.recall found) gtins recalls
+  pub recalled : Each (λ g found. AreRows {K = LotKey} same_lot recall_key (λ k. same_text g k.gtin) t.recall found) gtins recalls
 
 -- of the lots in the bin those behind the one seen: a page and one more; the rows of their items, the stock of the bin, and the row of `meta`
 pub record AreInBinRead (b : List ℕ) (seen : Option LotRow) (t : Tables) (meta : MetaRow) (listed : List LotRow) (rows : Rows) : Type 0 where

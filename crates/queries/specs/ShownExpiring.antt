@@ -1,6 +1,6 @@
 -- The rows by which lots that expire are shown.
 use Rattle.std.specs.Prelude.{◌≡◌}
-use Rattle.queries.specs.Words.{ℕ, ℤ, true, List, [], Option, Some, None, Result, Ok, Err, option_map, Vec, refl, ap, sym, ◌∙◌, Global, same_text, LotId, Tables, Refusal, UnknownLot, ItemRow, LeastRow, LotRow, MetaRow, RecallRow, ReservedRow, StagedRow, StockRow, ExpiringView, page, expiring_view, expiring_shown, Act, is_lot, KnownLot, lot_known, if_known, tables_of, Rows, AreRows, ItemKey, same_item, item_key, RecallKey, same_recall, recall_key, StockKey, same_stock, stock_key, StagedKey, same_staged, staged_key, ReservedKey, same_reserved, reserved_key, with_keys, AreLotsOf, Each, AreLeast, items_of_lots, lots_and_more, known_row}
+use Rattle.queries.specs.Words.{ℕ, ℤ, true, List, [], Option, Some, None, Result, Ok, Err, option_map, Vec, refl, ap, sym, ◌∙◌, Global, same_text, LotId, Tables, Refusal, UnknownLot, ItemRow, LeastRow, LotRow, MetaRow, RecallRow, ReservedRow, StagedRow, StockRow, ExpiringView, page, expiring_view, expiring_shown, Act, is_lot, KnownLot, lot_known, if_known, tables_of, Rows, AreRows, ItemKey, same_item, item_key, LotKey, same_lot, recall_key, StockKey, same_stock, stock_key, StagedKey, same_staged, staged_key, ReservedKey, same_reserved, reserved_key, with_keys, AreLotsOf, Each, AreLeast, items_of_lots, lots_and_more, known_row}
 
 abbrev pub AreAllStock : Tables → List StockRow → Type 0
 AreAllStock t rows = AreRows {K = StockKey} same_stock stock_key (λ k. true) (λ k. t.stock k.0 k.1) rows
@@ -22,7 +22,7 @@ pub record AreHouse (t : Tables) (lots : List LotRow) (stock : List StockRow) (s
 pub record AreOfItems (gtins : List (List ℕ)) (t : Tables) (items : List ItemRow) (least : List LeastRow) (recalls : List RecallRow) (reserved : List ReservedRow) : Type 0 where
   pub own : Each (λ g found. AreRows {K = ItemKey} same_item item_key (λ k. same_text g k) t.item found) gtins items
   pub asked : AreLeast gtins t least
-  pub recalled : Each (λ g found. AreRows {K = RecallKey} same_recall recall_key (λ k. same_text g k.gtin) t.recall found) gtins recalls
+  pub recalled : Each (λ g found. AreRows {K = LotKey} same_lot recall_key (λ k. same_text g k.gtin) t.recall found) gtins recalls
   pub taken : Each (λ g found. AreRows {K = ReservedKey} same_reserved reserved_key (λ k. same_text g k.1.gtin) (λ k. t.reserved k.0 k.1) found) gtins reserved
 
 -- of the lots in the house those that expire up to the day, behind the one seen: a page and one more; the rows of their items, and the row of `meta`

@@ -60,7 +60,7 @@ pub use Rattle.views.specs.declared.open_orders.ServedOrder.{ServedOrder}
 pub use Rattle.rows_in_memory.specs.Keys.{with_keys}
 pub use Rattle.rows_in_memory.specs.OpenLines.{Entries, all_names}
 pub use Rattle.table_words.specs.Found.{AreRows, only_if}
-pub use Rattle.table_words.specs.Typed.{StagedKey, same_staged, staged_key, ReservedKey, same_reserved, reserved_key, ItemKey, same_item, item_key, RecallKey, same_recall, recall_key, StockKey, same_stock, stock_key, OrderKey, same_order, order_key, is_open_order, UrgentKey, same_urgent, urgent_key, LineKey, same_line, line_key, LeastKey, same_least, least_key, LotKey, same_lot, lot_key}
+pub use Rattle.table_words.specs.Typed.{StagedKey, same_staged, staged_key, ReservedKey, same_reserved, reserved_key, ItemKey, same_item, item_key, LotKey, same_lot, recall_key, StockKey, same_stock, stock_key, OrderKey, same_order, order_key, is_open_order, urgent_key, LineKey, same_line, line_key, least_key, lot_key}
 pub use Rattle.tables.specs.ByKey.{AreCardLines}
 pub use Rattle.tables.specs.Stock.{AreStockIn, AreStockOfLot}
 pub use Rattle.slices.specs.ByLot.{AreLotsOf, AreStockOf}

@@ -22,16 +22,15 @@ use rows_in_memory::item_rows::of_item;
 use rows_in_memory::key_list::KeyList;
 use rules::Rows;
 use slices::{
-    Known, RowsKnown, known_meta, read_rows, seek_all, seek_items, seek_least, seek_lots,
-    seek_recalls,
+    Known, RowsKnown, known_meta, read_rows, seek_items, seek_least, seek_lots, seek_recalls,
+    seek_reserved,
 };
 use sqlite::{Alter, Transaction};
 use std::alloc::{AllocError, Global};
 use table_words::error::TableFault;
-use tables::reserved::Reserved;
 use tables::staged::Staged;
 use tables::stock::Stock;
-use values::{Gtin, LotId, LotKey};
+use values::{LotId, LotKey};
 use views::{expiring_page, expiring_view, page_of};
 use whole_tables::all_rows;
 
@@ -127,7 +126,7 @@ fn read_items_of<S: Alter>(
     let items = seek_items(alloc, tx, rows, gtins.as_slice())?;
     let least = seek_least(alloc, tx, rows, gtins.as_slice())?;
     let recalls = seek_recalls(alloc, tx, rows, gtins.as_slice())?;
-    let reserved = seek_all::<Reserved, Gtin, S>(alloc, tx, gtins.as_slice())?;
+    let reserved = seek_reserved(alloc, tx, rows, gtins.as_slice())?;
     Ok(Items {
         items,
         least,

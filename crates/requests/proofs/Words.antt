@@ -3,7 +3,7 @@ pub use Rattle.std.specs.List.{count_by, find, list_any}
 pub use Rattle.std.specs.Option.{ok_or}
 pub use Rattle.std.specs.Prelude.{negsuc, nat_lt, All}
 pub use Rattle.std.specs.Str.{bytes_eq, IsUtf8, is_utf8}
-pub use Rattle.std.proofs.Common.{◌≡◌, ◌≢◌, ◌∙◌, ap, refl, ℕ, List, Bool, Option, Some, Err, if◌then◌else◌, codes, [], ◌∷◌, None, Ok, option_map, sym, ◌+◌, ◌<◌, length, take, drop, get_or, true, false, arith, add-one, drop-cons, suc, ◌++◌, append_assoc, append-nil, ◌≤◌, inl, inr, ◌-◌, min, MatchOption, Result, length-append, length-take, unwrap_or, rules, map, ◌*◌, ◌^◌}
+pub use Rattle.std.proofs.Common.{◌≡◌, ◌≢◌, ◌∙◌, ap, refl, ℕ, List, Bool, Option, Some, Err, if◌then◌else◌, codes, [], ◌∷◌, None, Ok, option_map, sym, ◌+◌, ◌<◌, length, take, drop, get_or, true, false, arith, add-one, drop-cons, suc, ◌++◌, append_assoc, append-nil, ◌≤◌, inl, inr, ◌-◌, min, MatchOption, Result, length-append, length-take, unwrap_or, rules, map}
 pub use Rattle.std.proofs.Math.Seq.{take-append-add, take-length}
 pub use Rattle.std.proofs.lemmas.Bool.{ne_eqb, not-false}
 pub use Rattle.std.proofs.lemmas.Bool.Decides.{nat_tests}
@@ -26,7 +26,7 @@ pub use Rattle.commands.specs.declared.command.OrderLine.{OrderLine}
 pub use Rattle.commands.specs.declared.key.Key.TheVariants.{Plain}
 pub use Rattle.requests.specs.Bodies.{body_of, line_of, lines_of}
 pub use Rattle.requests.specs.Fields.{json, whole_at, delta_at}
-pub use Rattle.requests.specs.Head.{length_value, body_length, head_end, BLANK_LINE, HEAD_MAX, fields_of, IsHead, is_named, number_from}
+pub use Rattle.requests.specs.Head.{length_value, body_length, head_end, BLANK_LINE, HEAD_MAX, fields_of, IsHead, is_named}
 pub use Rattle.requests.specs.Laws.{needs_more, IsSettled}
 pub use Rattle.requests.specs.Requests.{valued, posted, read_route, read_method, read_ask, second_segment, third_segment, inner_segment, fourth_segment, query_of, headless, after_head, answered, IsCutReading, IsReading, after_slash, before_slash}
 pub use Rattle.requests.specs.Routes.{route_of, method_of, method_name, add_all, listed}

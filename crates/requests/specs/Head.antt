@@ -1,8 +1,8 @@
 -- The head of a request, and what it says of the body's length: steps 1 to 3 of `Requests`.
-use Rattle.std.specs.Prelude.{ℕ, ◌+◌, ◌-◌, ◌*◌, ◌≤◌, List, [], ◌∷◌, codes, map, length, take, Bool, ◌||◌, ◌&&◌, not, nat_lt, if◌then◌else◌, Option, Some, None, option_map, Result, Ok, Err}
-use Rattle.std.specs.List.{list_any, list_all, find, count_by}
-use Rattle.std.specs.Str.{bytes_eq, str_eq_ignore_ascii_case}
-use Rattle.values.specs.Values.{is_between, is_digit}
+use Rattle.std.specs.Prelude.{ℕ, ◌+◌, ◌≤◌, List, [], ◌∷◌, codes, map, length, take, Bool, ◌||◌, ◌&&◌, not, nat_lt, if◌then◌else◌, Option, Some, None, option_map, Result, Ok, Err}
+use Rattle.std.specs.List.{list_any, find, count_by}
+use Rattle.std.specs.Str.{all_ascii_digits, bytes_eq, str_eq_ignore_ascii_case}
+use Rattle.values.specs.Values.{is_between, number_from}
 use Rattle.httparse.specs.Grammar.{RequestHead, ReadsRequest}
 use Rattle.httparse.specs.Spans.{name_and_value}
 use Rattle.requests.specs.declared.fault.WireFault.{WireFault}
@@ -39,15 +39,10 @@ fields_of h = map name_and_value h.fields
 abbrev pub is_named : List ℕ → Named → Bool
 is_named name f = str_eq_ignore_ascii_case f.0 name
 
--- the number that digits write, after those before it
-abbrev pub number_from : ℕ → List ℕ → ℕ
-number_from n [] = n
-number_from n (c ∷ cs) = number_from (n * 10 + (c - 48)) cs
-
 -- what a Content-Length says: 1 to 9 digits
 abbrev pub length_value : List ℕ → Result ℕ WireFault
 length_value v =
-    if not (is_between 1 9 (length v) && list_all is_digit v) then Err Length
+    if not (is_between 1 9 (length v) && all_ascii_digits v) then Err Length
     else (if nat_lt BODY_MAX (number_from 0 v) then Err TooLarge else Ok (number_from 0 v))
 
 abbrev pub length_field : Option Named → Result ℕ WireFault

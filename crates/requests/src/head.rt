@@ -1,14 +1,14 @@
 ghost use Rattle.std.specs.Prelude.{◌≡◌, ◌≤◌, ◌+◌, ◌<◌, ◌||◌, length, take, map, IfOk, OnErr, IfSome, All, Some, None, Ok, Err, option_map, IsTrue};
-ghost use Rattle.std.specs.List.{list_any, list_all, find, count_by};
+ghost use Rattle.std.specs.List.{list_any, find, count_by};
 ghost use Rattle.std.specs.Str.{bytes_eq};
-ghost use Rattle.values.specs.Values.{is_digit as is_digit_lem};
 ghost use Rattle.httparse.specs.Grammar.{RequestHead};
 ghost use Rattle.httparse.specs.Spans.{header_bytes, IsHeaderWithin};
-ghost use Rattle.requests.specs.Head.{BLANK_LINE, head_end as head_end_lem, IsHead, fields_of, is_named as is_named_lem, number_from, length_value as length_value_lem, body_length as body_length_lem};
+ghost use Rattle.requests.specs.Head.{BLANK_LINE, head_end as head_end_lem, IsHead, fields_of, is_named as is_named_lem, length_value as length_value_lem, body_length as body_length_lem};
 
 use crate::WireFault;
 use httparse::Status;
 use httparse::spans::{EMPTY_HEADER_SPAN, HeaderSpan, parse_request};
+use values::{are_digits, written_number};
 
 /// The longest head, in bytes.
 pub(crate) const LONGEST_HEAD: usize = 8_192;
@@ -100,37 +100,13 @@ fn field<'b>(text: &'b [u8], headers: &[HeaderSpan], name: &[u8]) -> Option<&'b 
     None
 }
 
-fn is_digit(c: u8) -> bool
-    ensures { result ≡ is_digit_lem c }
-{
-    // `&` and not `&&`: one value, without a branch.
-    (b'0' <= c) & (c <= b'9')
-}
-
-fn are_digits(text: &[u8]) -> bool
-    ensures { result ≡ list_all is_digit_lem text.now }
-{
-    text.iter().all(|c| is_digit(*c))
-}
-
-fn number(digits: &[u8]) -> u64
-    requires { length digits.now ≤ 9 }
-    ensures { result ≡ number_from 0 digits.now }
-{
-    let mut n = 0;
-    for c in digits {
-        n = n * 10 + c.saturating_sub(b'0') as u64;
-    }
-    n
-}
-
 fn length_value(text: &[u8]) -> Result<u64, WireFault>
     ensures { result ≡ length_value_lem text.now }
 {
     if text.is_empty() || text.len() > 9 || !are_digits(text) {
         return Err(WireFault::Length);
     }
-    let n = number(text);
+    let n = written_number(text);
     if n > LONGEST_BODY {
         return Err(WireFault::TooLarge);
     }

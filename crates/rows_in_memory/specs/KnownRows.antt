@@ -2,21 +2,21 @@
 use Rattle.std.specs.Prelude.{◌≡◌, ◌⊎◌, ℕ, ◌+◌, length, Bool, true, false, not, if◌then◌else◌, List, [], ◌∷◌, ◌++◌, filter, Option, Some, None, IfSome, Vec}
 use Rattle.std.specs.declared.alloc.Global.{Global}
 use Rattle.std.specs.List.{list_any, sum_by}
-use Rattle.std.specs.Option.{option_map}
 use Rattle.std.specs.Ordering.{is_eq}
 use Rattle.std.specs.declared.cmp.Ordering.{Ordering}
 use Rattle.std.specs.BTreeMap.{BTreeMap, get, values}
+use Rattle.rows_in_memory.specs.declared.known_lists.KnownLists.{KnownLists}
 
--- lists of rows by the keys of what they were sought by
+-- lists of rows by the keys of what they were sought by, and whether they have all rows
 abbrev pub RowMap : Type 0 → Type 0 → Type 0
-RowMap K R = BTreeMap K (Vec R Global)
+RowMap = KnownLists
 
 -- what a list weighs: 1, and each of its rows 1 more
 abbrev pub list_weight : {R : Type 0} → Vec R Global → ℕ
 list_weight rows = length rows.items + 1
 
 -- what lists weigh together
-abbrev pub map_weight : {K R : Type 0} → RowMap K R → ℕ
+abbrev pub map_weight : {K R : Type 0} → BTreeMap K (Vec R Global) → ℕ
 map_weight m = sum_by list_weight (values m)
 
 -- the list without the row under the key of this one, and with the row in its place
@@ -26,10 +26,19 @@ without_row same r rows = filter (λ x. not (same x r)) rows
 abbrev pub with_put : {R : Type 0} → (R → R → Bool) → R → List R → List R
 with_put same r rows = without_row same r rows ++ r ∷ []
 
+-- the list with the row behind its others, of which none has its key if it is new
+abbrev pub placed : {R : Type 0} → (R → R → Bool) → Bool → R → List R → List R
+placed same is_new r rows = (if is_new then rows else without_row same r rows) ++ r ∷ []
+
+-- the rows of a list; where there is none, there are no rows if the lists have all
+abbrev pub rows_in : {R : Type 0} → Bool → Option (Vec R Global) → Option (List R)
+rows_in whole (Some v) = Some v.items
+rows_in whole None = if whole then Some [] else None
+
 module _ {K R : Type 0} (cmp : K → K → Ordering) where
   -- the rows that are known under a key
   abbrev pub rows_at : RowMap K R → K → Option (List R)
-  rows_at m k = option_map (λ (v : Vec R Global). v.items) (get cmp m k)
+  rows_at m k = rows_in m.whole (get cmp m.lists k)
 
   abbrev pub KnowsNone : RowMap K R → Type 0
   KnowsNone m = (q : K) → rows_at m q ≡ None
@@ -42,9 +51,9 @@ module _ {K R : Type 0} (cmp : K → K → Ordering) where
   abbrev pub LearnsAt : K → List R → RowMap K R → RowMap K R → Type 0
   LearnsAt k rows old new = (q : K) → IfSome (rows_at new q) (λ found. ((is_eq (cmp k q) ≡ true) × (found ≡ rows)) ⊎ (rows_at old q ≡ Some found))
 
-  -- what was known before is known after, but for what is under this key
+  -- what is known after was known before, and not under this key
   abbrev pub ForgetsAt : K → RowMap K R → RowMap K R → Type 0
-  ForgetsAt k old new = (q : K) → rows_at new q ≡ (if is_eq (cmp k q) then None else rows_at old q)
+  ForgetsAt k old new = (q : K) → IfSome (rows_at new q) (λ found. (rows_at old q ≡ Some found) × (is_eq (cmp k q) ≡ false))
 
   -- what is known after was known before, and not under the key of one of these rows
   abbrev pub ForgetsBy : (R → K) → List R → RowMap K R → RowMap K R → Type 0
@@ -62,6 +71,10 @@ module _ {K R : Type 0} (cmp : K → K → Ordering) where
   -- what is known after was known before, with the changes of these rows
   abbrev pub ChangesBy : (R → K) → (R → List R → List R) → List R → RowMap K R → RowMap K R → Type 0
   ChangesBy key change rows old new = (q : K) → IfSome (rows_at new q) (λ found. (before : List R) × (rows_at old q ≡ Some before) × (found ≡ each_changed key change rows q before))
+
+  -- what is known after was known before, or it is those of these rows whose key it is
+  abbrev pub KnowsAll : (R → K) → List R → RowMap K R → RowMap K R → Type 0
+  KnowsAll key rows old new = (q : K) → IfSome (rows_at new q) (λ found. (found ≡ filter (λ r. is_eq (cmp (key r) q)) rows) ⊎ (rows_at old q ≡ Some found))
 
   -- what is known of the rows that are sought is so
   abbrev pub Remembers : {B : Type 0} → (B → K) → (B → List R → Type 0) → RowMap K R → Type 0

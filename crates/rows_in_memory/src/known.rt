@@ -1,13 +1,15 @@
 //! Rows that are known by what they were sought by.
 
-ghost use Rattle.std.specs.Prelude.{◌≡◌, ◌+◌, ◌≤◌};
+ghost use Rattle.std.specs.Prelude.{◌≡◌, ◌+◌, ◌≤◌, ◌∷◌, [], List, Some, None, true, not, ◌&&◌, if◌then◌else◌};
+ghost use Rattle.std.specs.BTreeMap.{get};
 ghost use Rattle.std.specs.Option.{option_copied};
 ghost use Rattle.rows_in_memory.specs.declared.known.TheConstants.{WEIGHT_MAX};
-ghost use Rattle.rows_in_memory.specs.KnownRows.{list_weight, map_weight, rows_at, KnowsNone, IsPart, LearnsAt, ForgetsAt, ForgetsBy, ChangesAt, ChangesBy, with_put, without_row};
+ghost use Rattle.rows_in_memory.specs.KnownRows.{list_weight, map_weight, rows_at, KnowsNone, IsPart, LearnsAt, ForgetsAt, ForgetsBy, ChangesAt, ChangesBy, KnowsAll, placed, with_put, without_row};
 
 use crate::key_list::KeyOf;
 use crate::keyed::{ExactKey, KeyedRow};
-use crate::lists::{can_weigh, drop_from, put_in, weight_if, weight_of};
+use crate::known_lists::KnownLists;
+use crate::lists::{can_weigh, drop_from, one_row, put_in, weight_if, weight_of};
 use row_rules::having::Has;
 use std::alloc::Global;
 use std::collections::BTreeMap;
@@ -22,12 +24,14 @@ pub const FEW: usize = 256;
 /// Lists of rows, each as it was found, by what they were sought by. That a list is empty is known too.
 #[derive(Drop)]
 pub struct KnownRows<B: Copy, K: KeyOf<B>, R: Has<B>> {
-    pub rows: BTreeMap<K, Vec<R>>,
+    pub rows: KnownLists<K, R>,
     /// What is known weighs so much.
     pub weight: u64,
+    /// All rows were too many when it was last tried to know them.
+    pub too_many: bool,
     pub alloc: Global,
     pub of: PhantomData<B>,
-    ghost weighs: { weight ≡ map_weight rows },
+    ghost weighs: { weight ≡ map_weight rows.lists },
 }
 
 impl<B: Copy, K: KeyOf<B>, R: Has<B>> KnownRows<B, K, R> {
@@ -36,8 +40,12 @@ impl<B: Copy, K: KeyOf<B>, R: Has<B>> KnownRows<B, K, R> {
         ensures { KnowsNone K.cmp result.rows }
     {
         KnownRows {
-            rows: BTreeMap::new(alloc),
+            rows: KnownLists {
+                lists: BTreeMap::new(alloc),
+                whole: false,
+            },
             weight: 0,
+            too_many: false,
             alloc,
             of: PhantomData,
         }
@@ -47,17 +55,19 @@ impl<B: Copy, K: KeyOf<B>, R: Has<B>> KnownRows<B, K, R> {
     pub fn rows_of(&self, by: &B) -> Option<&[R]>
         ensures { option_copied result ≡ rows_at K.cmp self.now.rows (K.key by.now) }
     {
-        match self.rows.get(&K::of(by)) {
+        match self.rows.lists.get(&K::of(by)) {
             Some(rows) => Some(rows.as_slice()),
+            None if self.rows.whole => Some(&[]),
             None => None,
         }
     }
 
-    /// Forgets what is known of the rows that are sought by this. It takes no memory.
+    /// Forgets what is known of the rows that are sought by this, and that all rows are known. It takes no memory.
     pub fn forget(&mut self, by: &B)
         ensures { ForgetsAt K.cmp (K.key by.now) self.old.rows self.new.rows }
     {
-        if let Some(rows) = self.rows.remove(&K::of(by)) {
+        self.rows.whole = false;
+        if let Some(rows) = self.rows.lists.remove(&K::of(by)) {
             self.weight -= weight_of(&rows);
         }
     }
@@ -71,14 +81,26 @@ impl<B: Copy, K: KeyOf<B>, R: Has<B>> KnownRows<B, K, R> {
         }
     }
 
+    // Begins with no lists: nothing is known, or that there are no rows.
+    fn begin_anew(&mut self, whole: bool)
+        ensures lists { (q : K) → rows_at K.cmp self.new.rows q ≡ (if whole then Some [] else None) }
+        ensures weight { self.new.weight ≡ 0 }
+    {
+        self.rows = KnownLists {
+            lists: BTreeMap::new(self.alloc),
+            whole,
+        };
+        self.weight = 0;
+        self.too_many = false;
+    }
+
     // Forgets all, where too much is known.
     fn make_room(&mut self)
         ensures part { IsPart K.cmp self.old.rows self.new.rows }
         ensures bounded { self.new.weight ≤ WEIGHT_MAX }
     {
         if self.weight > WEIGHT_MAX {
-            self.rows = BTreeMap::new(self.alloc);
-            self.weight = 0;
+            self.begin_anew(false);
         }
     }
 
@@ -90,32 +112,74 @@ impl<B: Copy, K: KeyOf<B>, R: Has<B>> KnownRows<B, K, R> {
     {
         self.make_room();
         let more = weight_of(&rows);
-        if let Ok(before) = self.rows.insert(K::of(by), rows) {
+        if let Ok(before) = self.rows.lists.insert(K::of(by), rows) {
             self.weight = self.weight + more - weight_if(&before);
+        }
+    }
+
+    // That all rows are known is given up, where they are too many.
+    fn bound_whole(&mut self)
+        ensures { IsPart K.cmp self.old.rows self.new.rows }
+    {
+        if self.rows.whole && self.weight > WEIGHT_MAX {
+            self.rows.whole = false;
+            self.too_many = true;
         }
     }
 }
 
 impl<B: Copy, K: KeyOf<B> + ExactKey, R: Has<B> + KeyedRow> KnownRows<B, K, R> {
-    /// The row takes the place of the one that has its key, where the rows are known that it is one of. For want of memory they
-    /// are forgotten.
-    pub fn put(&mut self, row: &R)
-        ensures { ChangesAt K.cmp (K.key (R.of_row row.now)) (with_put R.same_row row.now) self.old.rows self.new.rows }
+    // Where all rows are known, this one is the first of its list, and there is room for it: it is known. Where there is none,
+    // the rows of its list are not known, and so not all.
+    fn begin_list(&mut self, key: K, row: &R)
+        requires { get K.cmp self.old.rows.lists key ≡ None }
+        ensures { (change : List R → List R) → change [] ≡ row.now ∷ [] → ChangesAt K.cmp key change self.old.rows self.new.rows }
+    {
+        if !self.rows.whole {
+            return;
+        }
+        self.rows.whole = false;
+        let Ok(list) = one_row::<R>(self.alloc, row) else {
+            return;
+        };
+        let Some(weight) = self.weight.checked_add(weight_of(&list)) else {
+            return;
+        };
+        if self.rows.lists.insert(key, list).is_ok() {
+            self.weight = weight;
+            self.rows.whole = true;
+        }
+    }
+
+    // The row goes behind its list, where that is known, in place of the one that has its key; where it is new there is none.
+    // For want of memory the list is forgotten.
+    fn place(&mut self, row: &R, is_new: bool)
+        ensures { ChangesAt K.cmp (K.key (R.of_row row.now)) (placed R.same_row is_new row.now) self.old.rows self.new.rows }
     {
         let key = K::of(&row.value());
-        let Some(rows) = self.rows.get_mut(&key) else {
+        let Some(rows) = self.rows.lists.get_mut(&key) else {
+            self.begin_list(key, row);
             return;
         };
         let before = weight_of(rows);
-        let done = put_in::<R>(rows, row);
+        let done = put_in::<R>(rows, row, is_new);
         let after = weight_of(rows);
         let others = self.weight - before;
         if can_weigh(&done, others, after) {
             self.weight = others + after;
         } else {
-            self.rows.remove(&key);
+            self.rows.whole = false;
+            self.rows.lists.remove(&key);
             self.weight = others;
         }
+    }
+
+    /// The row takes the place of the one that has its key, where the rows are known that it is one of. For want of memory they
+    /// are forgotten.
+    pub fn put(&mut self, row: &R)
+        ensures { ChangesAt K.cmp (K.key (R.of_row row.now)) (with_put R.same_row row.now) self.old.rows self.new.rows }
+    {
+        self.place(row, false);
     }
 
     /// The row that has the key of this one goes, where the rows are known that it is one of.
@@ -123,7 +187,7 @@ impl<B: Copy, K: KeyOf<B> + ExactKey, R: Has<B> + KeyedRow> KnownRows<B, K, R> {
         ensures { ChangesAt K.cmp (K.key (R.of_row row.now)) (without_row R.same_row row.now) self.old.rows self.new.rows }
     {
         let key = K::of(&row.value());
-        let Some(rows) = self.rows.get_mut(&key) else {
+        let Some(rows) = self.rows.lists.get_mut(&key) else {
             return;
         };
         let before = weight_of(rows);
@@ -143,6 +207,7 @@ impl<B: Copy, K: KeyOf<B> + ExactKey, R: Has<B> + KeyedRow> KnownRows<B, K, R> {
         for row in rows {
             self.put(row);
         }
+        self.bound_whole();
     }
 
     /// The rows that have the keys of these go, one after another. Where there are many, the lists that they are of are forgotten.
@@ -156,5 +221,35 @@ impl<B: Copy, K: KeyOf<B> + ExactKey, R: Has<B> + KeyedRow> KnownRows<B, K, R> {
         for row in rows {
             self.drop_row(row);
         }
+    }
+
+    // Each of these rows goes behind its list.
+    fn place_all(&mut self, rows: &[R])
+        ensures { ChangesBy K.cmp (λ r. K.key (R.of_row r)) (placed R.same_row true) rows.now self.old.rows self.new.rows }
+    {
+        for row in rows {
+            self.place(row, true);
+        }
+    }
+
+    /// Knows all rows of a table, each once: under each key those that are sought by it, and of any other key that there are
+    /// none. Where they are too many, or memory fails, what is known is part of that, or of what was known.
+    pub fn keep_all(&mut self, rows: &[R])
+        ensures { KnowsAll K.cmp (λ r. K.key (R.of_row r)) rows.now self.old.rows self.new.rows }
+    {
+        if rows.len() as u64 > WEIGHT_MAX {
+            self.too_many = true;
+            return;
+        }
+        self.begin_anew(true);
+        self.place_all(rows);
+        self.bound_whole();
+    }
+
+    /// Whether it is worth reading all rows: they are not known, and were not found to be too many.
+    pub fn wants_all(&self) -> bool
+        ensures { result ≡ not self.now.rows.whole && not self.now.too_many }
+    {
+        !self.rows.whole && !self.too_many
     }
 }

@@ -8,6 +8,7 @@ pub mod item_rows;
 pub mod key_list;
 mod keyed;
 mod known;
+mod known_lists;
 mod line_keys;
 mod lines;
 mod lists;

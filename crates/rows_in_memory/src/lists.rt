@@ -1,11 +1,11 @@
 //! A list of rows with one row more or fewer.
 
-ghost use Rattle.std.specs.Prelude.{◌≡◌, ◌+◌, ◌<◌, ◌^◌, true, false, OnOk, is_err};
+ghost use Rattle.std.specs.Prelude.{◌≡◌, ◌+◌, ◌<◌, ◌^◌, true, false, [], ◌∷◌, IfOk, OnOk, is_err};
 ghost use Rattle.std.specs.Option.{option_map, unwrap_or};
-ghost use Rattle.rows_in_memory.specs.KnownRows.{list_weight, with_put, without_row};
+ghost use Rattle.rows_in_memory.specs.KnownRows.{list_weight, placed, without_row};
 
 use crate::keyed::KeyedRow;
-use std::alloc::AllocError;
+use std::alloc::{AllocError, Global};
 
 /// Without the row that has the key of this one.
 pub fn drop_from<R: KeyedRow>(rows: &mut Vec<R>, row: &R)
@@ -14,13 +14,24 @@ pub fn drop_from<R: KeyedRow>(rows: &mut Vec<R>, row: &R)
     rows.retain(|other| !other.is_same(row));
 }
 
-/// With the row in place of the one that has its key.
-pub fn put_in<R: KeyedRow>(rows: &mut Vec<R>, row: &R) -> Result<(), AllocError>
-    ensures { OnOk result (rows.new.items ≡ with_put R.same_row row.now rows.old.items) }
+/// With the row in place of the one that has its key. Where it is new there is none.
+pub fn put_in<R: KeyedRow>(rows: &mut Vec<R>, row: &R, is_new: bool) -> Result<(), AllocError>
+    ensures { OnOk result (rows.new.items ≡ placed R.same_row is_new row.now rows.old.items) }
 {
-    drop_from::<R>(rows, row);
+    if !is_new {
+        drop_from::<R>(rows, row);
+    }
     rows.push(*row)?;
     Ok(())
+}
+
+/// The row alone.
+pub fn one_row<R: Copy>(alloc: Global, row: &R) -> Result<Vec<R>, AllocError>
+    ensures { IfOk result (λ rows. rows.items ≡ row.now ∷ []) }
+{
+    let mut rows = Vec::new(alloc);
+    rows.push(*row)?;
+    Ok(rows)
 }
 
 /// What a list weighs: 1, and each of its rows 1 more.

@@ -1,5 +1,5 @@
 -- The orders that may be open: as they are read, without those of which a row tells that they are closed, and with those of a change.
-use Rattle.slices.proofs.Words.{◌≡◌, ℕ, Bool, true, false, ◌&&◌, not, List, [], ◌∷◌, map, filter, refl, ap, sym, subst, ◌∙◌, ◌||◌, if◌then◌else◌, find, Option, Some, None, is_some, list_any, same_text, Tables, OrderRow, UrgentRow, LineRow, OrderState, Open, Done, Cancelled, Entries, holds, Gains, Loses, has_line_row, is_closed_state, has_closed_row, only_if, OrderKey, same_order, order_key, is_open_order, UrgentKey, same_urgent, urgent_key, LineKey, same_line, line_key, is_open_state, AreOwn, and_both, or_first, or_later, same_text_is, same_text_refl, same_text_turned, Put, is_among, is_passed, is_open_in, with_names, other_names, has_urgent_row, urgent_lines, opens, opened_by, comes, Covers, CoversUrgent, AreAllLines, AreUrgents, AreNamed, AreKnownOrders, AreOpenLines, AreLinesPut, AreUrgentsPut, Knows, Known, Each}
+use Rattle.slices.proofs.Words.{◌≡◌, ℕ, Bool, true, false, ◌&&◌, not, List, [], ◌∷◌, map, filter, refl, ap, sym, subst, ◌∙◌, ◌||◌, if◌then◌else◌, find, Option, Some, None, is_some, list_any, same_text, Tables, OrderRow, UrgentRow, LineRow, OrderState, Open, Done, Cancelled, Entries, holds, Gains, Loses, has_line_row, is_closed_state, has_closed_row, only_if, OrderKey, same_order, order_key, is_open_order, urgent_key, LineKey, same_line, line_key, is_open_state, AreOwn, and_both, or_first, or_later, same_text_is, same_text_refl, same_text_turned, Put, is_among, is_passed, is_open_in, with_names, other_names, has_urgent_row, urgent_lines, opens, opened_by, comes, Covers, CoversUrgent, AreAllLines, AreUrgents, AreNamed, AreKnownOrders, AreOpenLines, AreLinesPut, AreUrgentsPut, Knows, Known, Each}
 use Rattle.table_words.specs.Found as read
 use Rattle.slices.proofs.Counted.{any_mapped}
 use Rattle.slices.proofs.KnownOrders.{any_more, among_others}
@@ -57,7 +57,7 @@ lines_have : (t : Tables) (names : List (List ℕ)) (rows : List LineRow) → Ar
 lines_have t names rows all g o among there = each_any {K = LineKey} same_line line_key (λ k. k.0) (λ k. t.line k.0 k.1) names rows all (o, g) among there
 
 urgents_have : (t : Tables) (names : List (List ℕ)) (rows : List UrgentRow) → AreUrgents names t rows → (o : List ℕ) → is_among names o ≡ true → is_some (t.urgent o) ≡ true → has_urgent_row rows o ≡ true
-urgents_have t names rows all o among there = each_any {K = UrgentKey} same_urgent urgent_key (λ k. k) t.urgent names rows all o among there
+urgents_have t names rows all o among there = each_any {K = OrderKey} same_order urgent_key (λ k. k) t.urgent names rows all o among there
 
 -- a line of an urgent order is among the lines of those
 line_of_urgent : (urgents : List UrgentRow) (lines : List LineRow) (g o : List ℕ) → has_line_row lines g o ≡ true → has_urgent_row urgents o ≡ true → has_line_row (urgent_lines urgents lines) g o ≡ true

@@ -6,6 +6,7 @@ pub mod KnowingSteps
 pub mod RowsChanged
 pub mod KnownWritten
 pub mod RowsAmong
+pub mod KnowsWhole
 pub mod Counted
 pub mod AtMost
 pub mod RowsTold

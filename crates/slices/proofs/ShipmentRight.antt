@@ -1,5 +1,5 @@
 -- What is read for a shipment of the tables of a history is its slice.
-use Rattle.slices.proofs.Words.{◌≡◌, ℕ, Bool, true, false, ◌&&◌, List, [], ◌∷◌, filter, refl, ap, sym, ◌∙◌, ◌||◌, Some, ℤ, list_any, same_text, LotId, Tables, Key, Ship, LineRow, StagedRow, ItemKey, same_item, item_key, LeastKey, same_least, least_key, BinKey, same_bin, bin_key, LotKey, same_lot, lot_key, RecallKey, same_recall, recall_key, StockKey, same_stock, stock_key, StagedKey, same_staged, staged_key, ReservedKey, same_reserved, reserved_key, OrderKey, same_order, order_key, UrgentKey, same_urgent, urgent_key, LineKey, same_line, line_key, Act, is_lot, has_line, tables_of, AreRows, and_both, or_false, or_first, or_later, same_text_is, same_text_refl, is_lot_is, is_lot_turned, is_lot_item, IsSlice, on_named_stage, has_touched_line, Slice, has_key, is_among, with_names, lots_on_stage, AreShipped, has_keys, once_keys}
+use Rattle.slices.proofs.Words.{◌≡◌, ℕ, Bool, true, false, ◌&&◌, List, [], ◌∷◌, filter, refl, ap, sym, ◌∙◌, ◌||◌, Some, ℤ, list_any, same_text, LotId, Tables, Key, Ship, LineRow, StagedRow, ItemKey, same_item, item_key, least_key, BinKey, same_bin, bin_key, LotKey, same_lot, lot_key, recall_key, StockKey, same_stock, stock_key, StagedKey, same_staged, staged_key, ReservedKey, same_reserved, reserved_key, OrderKey, same_order, order_key, urgent_key, LineKey, same_line, line_key, Act, is_lot, has_line, tables_of, AreRows, and_both, or_false, or_first, or_later, same_text_is, same_text_refl, is_lot_is, is_lot_turned, is_lot_item, IsSlice, on_named_stage, has_touched_line, Slice, has_key, is_among, with_names, lots_on_stage, AreShipped, has_keys, once_keys}
 use Rattle.slices.proofs.KeysTold.{same_cell_is, same_cell_refl, same_share_is, same_share_refl, same_line_is, same_line_refl}
 use Rattle.slices.proofs.RowsTold.{rows_as}
 use Rattle.slices.proofs.SliceTold.{among_names, once_names, sought}
@@ -54,9 +54,9 @@ module _ (first : ℤ) (acts : List Act) (key : Key) (order : List ℕ) (s : Sli
     items_counted = λ e. absurd (let no : false ≡ true = e in cc);
     bins_counted = λ e. absurd (let no : false ≡ true = e in cc);
     items = no_rows {K = ItemKey} same_item item_key (λ g. false) touched t.item s.rows.items are.no_items none;
-    least = no_rows {K = LeastKey} same_least least_key (λ g. false) touched t.least s.rows.least are.no_least none;
+    least = no_rows {K = ItemKey} same_item least_key (λ g. false) touched t.least s.rows.least are.no_least none;
     lots = no_rows {K = LotKey} same_lot lot_key (λ l. false) (λ l. touched l.gtin) t.lot s.rows.lots are.no_lots none;
-    recalls = no_rows {K = RecallKey} same_recall recall_key (λ l. false) (λ l. touched l.gtin) t.recall s.rows.recalls are.no_recalls none;
+    recalls = no_rows {K = LotKey} same_lot recall_key (λ l. false) (λ l. touched l.gtin) t.recall s.rows.recalls are.no_recalls none;
     stock = rows_as {K = StockKey} same_stock stock_key same_cell_is same_cell_refl (λ k. has_key is_lot lots k.0) (λ k. has_key is_lot lots k.0) (λ k. touched k.0.gtin && on_named_stage (Ship order) s.rows k.0) (λ k. touched k.0.gtin) (λ k. t.stock k.0 k.1) s.rows.stock
         (λ k e. on_stage k.0 ∙ (and_both (touched k.0.gtin) (on_named_stage (Ship order) s.rows k.0) e).1) (λ k e. lots_touched k.0 e)
         (keys_read is_lot is_lot_is is_lot_turned {K = StockKey} same_stock stock_key same_cell_is same_cell_refl (λ k. k.0) (λ k. t.stock k.0 k.1) lots (has_key is_lot lots) s.rows.stock
@@ -65,7 +65,7 @@ module _ (first : ℤ) (acts : List Act) (key : Key) (order : List ℕ) (s : Sli
     orders = rows_as {K = OrderKey} same_order order_key same_text_is same_text_refl (is_among (order ∷ [])) (is_among (order ∷ [])) (λ o. same_text o order || false) (λ o. same_text o order || has_touched_line first act acts o) t.order s.rows.orders
         (λ o e. e) (λ o e. one_named o (has_touched_line first act acts o) e)
         (sought {K = OrderKey} same_order order_key same_text_is same_text_refl (λ o. o) t.order (order ∷ []) (is_among (order ∷ [])) s.rows.orders refl (λ x. refl) are.named.orders);
-    urgents = no_rows {K = UrgentKey} same_urgent urgent_key (λ o. false) (λ o. same_text o order || has_touched_line first act acts o) t.urgent s.rows.urgents are.no_urgents none;
+    urgents = no_rows {K = OrderKey} same_order urgent_key (λ o. false) (λ o. same_text o order || has_touched_line first act acts o) t.urgent s.rows.urgents are.no_urgents none;
     lines = rows_as {K = LineKey} same_line line_key same_line_is same_line_refl (λ k. is_among (order ∷ []) k.0) (λ k. is_among (order ∷ []) k.0) (λ k. same_text k.0 order || false) (λ k. same_text k.0 order || touched k.1) (λ k. t.line k.0 k.1) s.rows.lines
         (λ k e. e) (λ k e. one_named k.0 (touched k.1) e)
         (sought {K = LineKey} same_line line_key same_line_is same_line_refl (λ k. k.0) (λ k. t.line k.0 k.1) (order ∷ []) (is_among (order ∷ [])) s.rows.lines refl (λ x. refl) are.named.lines);

@@ -1,5 +1,5 @@
 -- What is read of the tables of a history is the slice of the command.
-use Rattle.slices.proofs.Words.{◌≡◌, ℕ, Bool, true, false, ◌&&◌, not, List, [], ◌∷◌, length, refl, ap, sym, subst, ◌∙◌, ◌||◌, ◌==◌, nat_le, if◌then◌else◌, find, Option, Some, None, option_map, is_some, ℤ, list_any, list_all, cons_option, option_to_list, same_text, LotId, names_of, is_picked, NamedOrder, Tables, Key, ITEMS_MAX, BINS_MAX, NewItem, NewBin, OrderLine, Command, Item, Bin, Receive, Move, Count, Adjust, Order, Urgent, Cancel, Pick, Unpick, Ship, Hold, Release, Recall, OpenDay, Least, ItemRow, BinRow, StockRow, LineRow, StagedRow, Open, Done, Cancelled, ItemKey, same_item, item_key, LeastKey, same_least, least_key, BinKey, same_bin, bin_key, LotKey, same_lot, lot_key, RecallKey, same_recall, recall_key, StockKey, same_stock, stock_key, StagedKey, same_staged, staged_key, ReservedKey, same_reserved, reserved_key, OrderKey, same_order, order_key, UrgentKey, same_urgent, urgent_key, LineKey, same_line, line_key, is_open_order, Act, next_number, items, item_in, bins, Placed, orders, order_named, lines_of, lines_placed, is_cancelled, order_state, is_open_state, is_open, shipped_of, touches, tables_of, IsHistory, verdict, is_lot, AreRows, no_two, IsSlice, names_order, names_bin, names_lot, counts_items, counts_bins, ships, picks, plans, takes_step, is_share, names_reserved, is_named, is_named_lot, is_either, in_bins, on_stages, on_named_stage, has_touched_line, Slice, and_both, or_false, or_later, same_text_is, same_text_refl, same_text_turned, is_lot_is, is_lot_refl, is_lot_turned, is_lot_item, AreApart, any_found, item_accepted, bins_apart, found_order, some_mapped, names_touched, has_key, with_keys, is_among, with_names, with_some, items_named, lots_named, orders_named, bins_named, whole_orders, held_lots, AreAllLines, AreCounts, AreTaken, AreTouched, ArePlanned, AreSliced, is_passed, is_open_in, HoldsOf, Known, has_keys, once_keys}
+use Rattle.slices.proofs.Words.{◌≡◌, ℕ, Bool, true, false, ◌&&◌, not, List, [], ◌∷◌, length, refl, ap, sym, subst, ◌∙◌, ◌||◌, ◌==◌, nat_le, if◌then◌else◌, find, Option, Some, None, option_map, is_some, ℤ, list_any, list_all, cons_option, option_to_list, same_text, LotId, names_of, is_picked, NamedOrder, Tables, Key, ITEMS_MAX, BINS_MAX, NewItem, NewBin, OrderLine, Command, Item, Bin, Receive, Move, Count, Adjust, Order, Urgent, Cancel, Pick, Unpick, Ship, Hold, Release, Recall, OpenDay, Least, ItemRow, BinRow, StockRow, LineRow, StagedRow, Open, Done, Cancelled, ItemKey, same_item, item_key, least_key, BinKey, same_bin, bin_key, LotKey, same_lot, lot_key, recall_key, StockKey, same_stock, stock_key, StagedKey, same_staged, staged_key, ReservedKey, same_reserved, reserved_key, OrderKey, same_order, order_key, urgent_key, LineKey, same_line, line_key, is_open_order, Act, next_number, items, item_in, bins, Placed, orders, order_named, lines_of, lines_placed, is_cancelled, order_state, is_open_state, is_open, shipped_of, touches, tables_of, IsHistory, verdict, is_lot, AreRows, no_two, IsSlice, names_order, names_bin, names_lot, counts_items, counts_bins, ships, picks, plans, takes_step, is_share, names_reserved, is_named, is_named_lot, is_either, in_bins, on_stages, on_named_stage, has_touched_line, Slice, and_both, or_false, or_later, same_text_is, same_text_refl, same_text_turned, is_lot_is, is_lot_refl, is_lot_turned, is_lot_item, AreApart, any_found, item_accepted, bins_apart, found_order, some_mapped, names_touched, has_key, with_keys, is_among, with_names, with_some, items_named, lots_named, orders_named, bins_named, whole_orders, held_lots, AreAllLines, AreCounts, AreTaken, AreTouched, ArePlanned, AreSliced, is_passed, is_open_in, HoldsOf, Known, has_keys, once_keys}
 use Rattle.slices.proofs.AtMost.{told_number}
 use Rattle.slices.proofs.KeysTold.{same_cell_is, same_cell_refl, same_share_is, same_share_refl, same_line_is, same_line_refl}
 use Rattle.slices.proofs.RowsTold.{rows_as}
@@ -288,7 +288,7 @@ module _ (first : ℤ) (acts : List Act) where
       allowed_so : (o : List ℕ) → orders_allowed o ≡ true → names_order command o || has_touched_line first act acts o ≡ true
       allowed_so o e = ap (λ b. b || has_touched_line first act acts o) (sym (order_told command o)) ∙ ap (λ b. is_among (orders_named command) o || b) (sym (touched_line o)) ∙ e
 
-      urgent_rows : AreRows {K = UrgentKey} same_urgent urgent_key (λ o. is_open_in t o && has_line_of gtins t o) orders_allowed t.urgent s.rows.urgents
+      urgent_rows : AreRows {K = OrderKey} same_order urgent_key (λ o. is_open_in t o && has_line_of gtins t o) orders_allowed t.urgent s.rows.urgents
       urgent_rows =
           urgents_told t gtins orders_needed orders_allowed s.rows.orders order_rows (λ o e. or_later (is_among (orders_named command) o) (is_open_in t o && has_line_of gtins t o) e) known.urgent holds.urgent s.rows.urgents rows.urgents
 
@@ -299,14 +299,14 @@ module _ (first : ℤ) (acts : List Act) where
         bins_counted = counted_bins;
         items = rows_as {K = ItemKey} same_item item_key same_text_is same_text_refl touched touched (λ g. not (ships command) && touched g) touched t.item s.rows.items (λ g e. both (not (ships command)) (touched g) e) (λ g e. e)
             (sought {K = ItemKey} same_item item_key same_text_is same_text_refl (λ k. k) t.item gtins touched s.rows.items once told rows.goods.items);
-        least = rows_as {K = LeastKey} same_least least_key same_text_is same_text_refl touched touched (λ g. not (ships command) && touched g) touched t.least s.rows.least (λ g e. both (not (ships command)) (touched g) e) (λ g e. e)
-            (sought {K = LeastKey} same_least least_key same_text_is same_text_refl (λ k. k) t.least gtins touched s.rows.least once told rows.goods.least);
+        least = rows_as {K = ItemKey} same_item least_key same_text_is same_text_refl touched touched (λ g. not (ships command) && touched g) touched t.least s.rows.least (λ g e. both (not (ships command)) (touched g) e) (λ g e. e)
+            (sought {K = ItemKey} same_item least_key same_text_is same_text_refl (λ k. k) t.least gtins touched s.rows.least once told rows.goods.least);
         lots = rows_as {K = LotKey} same_lot lot_key is_lot_is is_lot_refl (has_key is_lot held) (has_key is_lot held)
             (λ l. (not (ships command) && touched l.gtin) && (names_lot command l || (plans command && (in_bins s.rows l || on_stages s.rows l)))) (λ l. touched l.gtin) t.lot s.rows.lots
             (λ l e. held_told l ∙ asked (names_lot command l) (plans command) (in_bins s.rows l) (on_stages s.rows l) (both (not (ships command) && touched l.gtin) (names_lot command l || (plans command && (in_bins s.rows l || on_stages s.rows l))) e)) held_touched
             (keys_read is_lot is_lot_is is_lot_turned {K = LotKey} same_lot lot_key is_lot_is is_lot_refl (λ k. k) t.lot held (has_key is_lot held) s.rows.lots held_once (λ l. refl) rows.lots);
-        recalls = rows_as {K = RecallKey} same_recall recall_key is_lot_is is_lot_refl (λ k. touched k.gtin) (λ k. touched k.gtin) (λ k. (plans command || names_lot command k) && touched k.gtin) (λ k. touched k.gtin) t.recall s.rows.recalls (λ k e. both (plans command || names_lot command k) (touched k.gtin) e) (λ k e. e)
-            (sought {K = RecallKey} same_recall recall_key is_lot_is is_lot_refl (λ k. k.gtin) t.recall gtins touched s.rows.recalls once told rows.goods.recalls);
+        recalls = rows_as {K = LotKey} same_lot recall_key is_lot_is is_lot_refl (λ k. touched k.gtin) (λ k. touched k.gtin) (λ k. (plans command || names_lot command k) && touched k.gtin) (λ k. touched k.gtin) t.recall s.rows.recalls (λ k e. both (plans command || names_lot command k) (touched k.gtin) e) (λ k e. e)
+            (sought {K = LotKey} same_lot recall_key is_lot_is is_lot_refl (λ k. k.gtin) t.recall gtins touched s.rows.recalls once told rows.goods.recalls);
         stock = rows_as {K = StockKey} same_stock stock_key same_cell_is same_cell_refl (λ k. touched k.0.gtin) (λ k. touched k.0.gtin) (λ k. touched k.0.gtin && ((plans command || (names_lot command k.0 && names_bin command k.1)) || (ships command && on_named_stage command s.rows k.0))) (λ k. touched k.0.gtin) (λ k. t.stock k.0 k.1) s.rows.stock
             (λ k e. (and_both (touched k.0.gtin) ((plans command || (names_lot command k.0 && names_bin command k.1)) || (ships command && on_named_stage command s.rows k.0)) e).0) (λ k e. e) stock_rows;
         bins = rows_as {K = BinKey} same_bin bin_key same_text_is same_text_refl (λ b. names_bin command b || list_any (λ r. same_text b r.bin) s.rows.stock) (λ b. names_bin command b || list_any (λ r. same_text b r.bin) s.rows.stock)
@@ -321,7 +321,7 @@ module _ (first : ℤ) (acts : List Act) where
             (λ o e. needs (is_among (orders_named command) o) (names_order command o) (is_open first acts o) (is_open_in t o) (has_touched_line first act acts o) (has_line_of gtins t o) (order_told command o) (open_told o) (touched_line o)
             (either (names_order command o) (plans command) (is_open first acts o) (has_touched_line first act acts o) e))
             allowed_so order_rows;
-        urgents = rows_as {K = UrgentKey} same_urgent urgent_key same_text_is same_text_refl (λ o. is_open_in t o && has_line_of gtins t o) orders_allowed
+        urgents = rows_as {K = OrderKey} same_order urgent_key same_text_is same_text_refl (λ o. is_open_in t o && has_line_of gtins t o) orders_allowed
             (λ o. (plans command && is_open first acts o) && has_touched_line first act acts o) (λ o. names_order command o || has_touched_line first act acts o) t.urgent s.rows.urgents
             (λ o e. opened (plans command) (is_open first acts o) (is_open_in t o) (has_touched_line first act acts o) (has_line_of gtins t o) (open_told o) (touched_line o) e) allowed_so urgent_rows;
         lines = rows_as {K = LineKey} same_line line_key same_line_is same_line_refl

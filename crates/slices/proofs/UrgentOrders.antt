@@ -1,5 +1,5 @@
 -- The rows of the urgent ones among the orders of a slice are those of the slice.
-use Rattle.slices.proofs.Words.{◌≡◌, ℕ, Bool, true, false, ◌&&◌, not, List, [], ◌∷◌, map, filter, refl, ap, sym, ◌∙◌, ◌||◌, find, Option, Some, None, is_some, list_any, same_text, Tables, OrderRow, UrgentRow, Entries, orders_at, holds, OrderKey, same_order, order_key, UrgentKey, same_urgent, urgent_key, AreRows, no_two, and_both, or_first, or_later, same_text_is, same_text_refl, is_among, names_among, names_at, is_open_in, is_passed, CoversUrgent, AreUrgents, AreUrgentsFor}
+use Rattle.slices.proofs.Words.{◌≡◌, ℕ, Bool, true, false, ◌&&◌, not, List, [], ◌∷◌, map, filter, refl, ap, sym, ◌∙◌, ◌||◌, find, Option, Some, None, is_some, list_any, same_text, Tables, OrderRow, UrgentRow, Entries, orders_at, holds, OrderKey, same_order, order_key, urgent_key, AreRows, no_two, and_both, or_first, or_later, same_text_is, same_text_refl, is_among, names_among, names_at, is_open_in, is_passed, CoversUrgent, AreUrgents, AreUrgentsFor}
 use Rattle.slices.proofs.Counted.{any_mapped}
 use Rattle.slices.proofs.KnownOrders.{has_line_of, some_passes, not_found}
 use Rattle.slices.proofs.OwnRows.{own_any, any_kept}
@@ -69,27 +69,27 @@ module _ (t : Tables) (gtins : List (List ℕ)) (needed allowed : List ℕ → B
 
   -- rows that were sought by names, among which is each wanted one that is urgent
   module _ (names : List (List ℕ)) (urgents : List UrgentRow) (once : no_two same_text names ≡ true) (read : AreUrgents names t urgents) where
-    named_rows : AreRows {K = UrgentKey} same_urgent urgent_key (is_among names) (is_among names) t.urgent urgents
-    named_rows = sought {K = UrgentKey} same_urgent urgent_key same_text_is same_text_refl (λ o. o) t.urgent names (is_among names) urgents once (λ o. refl) read
+    named_rows : AreRows {K = OrderKey} same_order urgent_key (is_among names) (is_among names) t.urgent urgents
+    named_rows = sought {K = OrderKey} same_order urgent_key same_text_is same_text_refl (λ o. o) t.urgent names (is_among names) urgents once (λ o. refl) read
 
-    by_names : ((o : List ℕ) → wanted o ≡ true → is_some (t.urgent o) ≡ true → is_among names o ≡ true) → ((o : List ℕ) → is_among names o ≡ true → allowed o ≡ true) → AreRows {K = UrgentKey} same_urgent urgent_key wanted allowed t.urgent urgents
+    by_names : ((o : List ℕ) → wanted o ≡ true → is_some (t.urgent o) ≡ true → is_among names o ≡ true) → ((o : List ℕ) → is_among names o ≡ true → allowed o ≡ true) → AreRows {K = OrderKey} same_order urgent_key wanted allowed t.urgent urgents
     by_names among may = record {
       found = λ o e. by o e (t.urgent o) refl;
-      own = own_more {K = UrgentKey} same_urgent urgent_key same_text_is same_text_refl (is_among names) allowed t.urgent urgents may named_rows.own;
+      own = own_more {K = OrderKey} same_order urgent_key same_text_is same_text_refl (is_among names) allowed t.urgent urgents may named_rows.own;
       once = named_rows.once;
     }
       where
-        by : (o : List ℕ) → wanted o ≡ true → (x : Option UrgentRow) → t.urgent o ≡ x → find (λ (r : UrgentRow). same_urgent o (urgent_key r)) urgents ≡ t.urgent o
-        by o e None none = not_found {K = UrgentKey} same_urgent urgent_key same_text_is (is_among names) t.urgent urgents named_rows.own o none ∙ sym none
+        by : (o : List ℕ) → wanted o ≡ true → (x : Option UrgentRow) → t.urgent o ≡ x → find (λ (r : UrgentRow). same_order o (urgent_key r)) urgents ≡ t.urgent o
+        by o e None none = not_found {K = OrderKey} same_order urgent_key same_text_is (is_among names) t.urgent urgents named_rows.own o none ∙ sym none
         by o e (Some u) is = named_rows.found o (among o e (ap is_some is))
 
   -- of each order
-  pub urgents_of_each : (urgents : List UrgentRow) → AreUrgents (map order_key orders) t urgents → AreRows {K = UrgentKey} same_urgent urgent_key wanted allowed t.urgent urgents
+  pub urgents_of_each : (urgents : List UrgentRow) → AreUrgents (map order_key orders) t urgents → AreRows {K = OrderKey} same_order urgent_key wanted allowed t.urgent urgents
   urgents_of_each urgents read =
       by_names (map order_key orders) urgents (mapped_once orders ∙ order_rows.once) read (λ o e urgent. any_mapped order_key (same_text o) orders ∙ row_there o e) (λ o e. row_allowed o (sym (any_mapped order_key (same_text o) orders) ∙ e))
 
   -- or of those that may be urgent
-  pub urgents_told : (known : Entries) → CoversUrgent known t → (urgents : List UrgentRow) → AreUrgentsFor known gtins orders t urgents → AreRows {K = UrgentKey} same_urgent urgent_key wanted allowed t.urgent urgents
+  pub urgents_told : (known : Entries) → CoversUrgent known t → (urgents : List UrgentRow) → AreUrgentsFor known gtins orders t urgents → AreRows {K = OrderKey} same_order urgent_key wanted allowed t.urgent urgents
   urgents_told known covers urgents read =
       let may_be = names_at known gtins in
       let kept = rows_kept {K = OrderKey} same_order order_key same_text_is same_text_refl (is_among may_be) needed allowed t.order orders order_rows in

@@ -78,12 +78,12 @@ pub use Rattle.rows_in_memory.specs.LineOrder.{turned_line, line_key_cmp}
 pub use Rattle.rows_in_memory.specs.LotOrder.{lot_key as turned_lot, lot_key_cmp}
 pub use Rattle.rows_in_memory.specs.OpenLines.{Entries, holds, Gains, Loses, has_line_row, is_closed_state, has_closed_row, orders_at, are_apart, Keeps}
 pub use Rattle.rows_in_memory.proofs.KeysOnce.{has_keys, once_keys}
-pub use Rattle.rows_in_memory.proofs.Learned.{remembers_left, remembers_none}
+pub use Rattle.rows_in_memory.proofs.Learned.{remembers_all, remembers_left, remembers_none}
 pub use Rattle.rows_in_memory.proofs.Names.{apart_kept}
 pub use Rattle.table_words.specs.Cells.{is_the_number}
 pub use Rattle.table_words.specs.Found.{only_if}
 pub use Rattle.table_words.specs.Steps.{IsReady}
-pub use Rattle.table_words.specs.Typed.{item_key, bin_key, OrderKey, same_order, order_key, is_open_order, UrgentKey, same_urgent, urgent_key, LineKey, same_line, line_key, LeastKey, same_least, least_key, LotKey, same_lot, lot_key, RecallKey, same_recall, recall_key, StagedKey, same_staged, staged_key, same_lot_id, StockKey, same_stock, tables_in, ItemKey, same_item, BinKey, same_bin, stock_key, ReservedKey, same_reserved, reserved_key, AreTyped, is_meta}
+pub use Rattle.table_words.specs.Typed.{item_key, bin_key, OrderKey, same_order, order_key, is_open_order, urgent_key, LineKey, same_line, line_key, ItemKey, same_item, least_key, LotKey, same_lot, lot_key, recall_key, StagedKey, same_staged, staged_key, same_lot_id, StockKey, same_stock, tables_in, BinKey, same_bin, stock_key, ReservedKey, same_reserved, reserved_key, AreTyped, is_meta}
 pub use Rattle.table_words.specs.declared.error.TableFault.{TableFault}
 pub use Rattle.table_words.specs.declared.error.TableFault.TheVariants.{Store, Foreign}
 pub use Rattle.table_words.proofs.CallLemmas.{kept_unchanged, kept_itself, kept_then, inside_then}

@@ -1,7 +1,7 @@
 -- The rows that a slice is made of.
 use Rattle.std.specs.Prelude.{◌≡◌, ℕ, ℤ, Bool, true, false, ◌&&◌, ◌||◌, List, [], ◌∷◌, ◌++◌, map, filter, Option, Some, None, is_some}
 use Rattle.values.specs.Values.{same_text}
-use Rattle.slices.specs.Words.{LotId, names_of, Tables, Command, ITEMS_MAX, BINS_MAX, MetaRow, ItemRow, LeastRow, BinRow, LotRow, RecallRow, StockRow, OrderRow, UrgentRow, LineRow, StagedRow, ReservedRow, AreRows, only_if, same_lot_id, ItemKey, same_item, item_key, LeastKey, same_least, least_key, BinKey, same_bin, bin_key, LotKey, same_lot, lot_key, RecallKey, same_recall, recall_key, StockKey, same_stock, stock_key, OrderKey, same_order, order_key, is_open_order, UrgentKey, same_urgent, urgent_key, LineKey, same_line, line_key, StagedKey, same_staged, staged_key, ReservedKey, same_reserved, reserved_key, is_asking, Act, tables_of, Put}
+use Rattle.slices.specs.Words.{LotId, names_of, Tables, Command, ITEMS_MAX, BINS_MAX, MetaRow, ItemRow, LeastRow, BinRow, LotRow, RecallRow, StockRow, OrderRow, UrgentRow, LineRow, StagedRow, ReservedRow, AreRows, only_if, same_lot_id, ItemKey, same_item, item_key, least_key, BinKey, same_bin, bin_key, LotKey, same_lot, lot_key, recall_key, StockKey, same_stock, stock_key, OrderKey, same_order, order_key, is_open_order, urgent_key, LineKey, same_line, line_key, StagedKey, same_staged, staged_key, ReservedKey, same_reserved, reserved_key, is_asking, Act, tables_of, Put}
 use Rattle.commands.specs.declared.key.Key.{Key}
 use Rattle.commands.specs.declared.command.Command.TheVariants.{Pick, Ship}
 use Rattle.commands.specs.declared.command.Picking.{Picking}
@@ -36,13 +36,13 @@ listed (Some r) = r ∷ []
 
 -- what items ask for, one item after another
 abbrev pub AreLeast : List (List ℕ) → Tables → List LeastRow → Type 0
-AreLeast gtins t least_rows = Each (λ g found. AreRows {K = LeastKey} same_least least_key (λ k. same_text g k) t.least found) gtins least_rows
+AreLeast gtins t least_rows = Each (λ g found. AreRows {K = ItemKey} same_item least_key (λ k. same_text g k) t.least found) gtins least_rows
 
 -- of the items their own rows, what they ask for, their recalls and their stock: each item's in turn
 pub record AreGoods (gtins : List (List ℕ)) (t : Tables) (item_rows : List ItemRow) (least_rows : List LeastRow) (recall_rows : List RecallRow) (stock_rows : List StockRow) : Type 0 where
   pub items : Each (λ g found. AreRows {K = ItemKey} same_item item_key (λ k. same_text g k) t.item found) gtins item_rows
   pub least : AreLeast gtins t least_rows
-  pub recalls : Each (λ g found. AreRows {K = RecallKey} same_recall recall_key (λ k. same_text g k.gtin) t.recall found) gtins recall_rows
+  pub recalls : Each (λ g found. AreRows {K = LotKey} same_lot recall_key (λ k. same_text g k.gtin) t.recall found) gtins recall_rows
   pub stock : Each (λ g found. AreRows {K = StockKey} same_stock stock_key (λ k. same_text g k.0.gtin) (λ k. t.stock k.0 k.1) found) gtins stock_rows
 
 pub record AreBooked (gtins : List (List ℕ)) (t : Tables) (staged_rows : List StagedRow) (reserved_rows : List ReservedRow) : Type 0 where
@@ -135,7 +135,7 @@ names_at known (g ∷ gtins) = orders_at known g ++ names_at known gtins
 
 -- the rows of the urgent ones among these orders, one name after another
 abbrev pub AreUrgents : List (List ℕ) → Tables → List UrgentRow → Type 0
-AreUrgents names t urgent_rows = Each (λ o found. AreRows {K = UrgentKey} same_urgent urgent_key (λ k. same_text o k) t.urgent found) names urgent_rows
+AreUrgents names t urgent_rows = Each (λ o found. AreRows {K = OrderKey} same_order urgent_key (λ k. same_text o k) t.urgent found) names urgent_rows
 
 -- those of the orders that may be urgent and have a line of one of the items
 abbrev pub AreUrgentsFor : Entries → List (List ℕ) → List OrderRow → Tables → List UrgentRow → Type 0
@@ -148,9 +148,9 @@ pub record AreEnding (old new : ℤ) (t : Tables) (lot_rows : List LotRow) : Typ
   pub all : List LotRow
   pub read : AreRows {K = LotKey} same_lot lot_key (λ key. true) t.lot all
   pub least : List LeastRow
-  pub least_read : AreRows {K = LeastKey} same_least least_key (λ key. true) (λ key. only_if is_asking (t.least key)) least
+  pub least_read : AreRows {K = ItemKey} same_item least_key (λ key. true) (λ key. only_if is_asking (t.least key)) least
   pub recalls : List RecallRow
-  pub recalls_read : Each (λ g found. AreRows {K = RecallKey} same_recall recall_key (λ k. same_text g k.gtin) t.recall found) (items_of_lots (filter (is_ending old new least) all)) recalls
+  pub recalls_read : Each (λ g found. AreRows {K = LotKey} same_lot recall_key (λ k. same_text g k.gtin) t.recall found) (items_of_lots (filter (is_ending old new least) all)) recalls
   pub lots : lot_rows ≡ not_recalled recalls (filter (is_ending old new least) all)
 
 -- the items that the opening of the day touches: those of such lots, and those with staged units
@@ -276,10 +276,10 @@ pub record AreShipped (order : List ℕ) (t : Tables) (rows : Rows) : Type 0 whe
 -- the bin
 pub record AreGoodsIn (l : LotId) (bin : List ℕ) (t : Tables) (item_rows : List ItemRow) (least_rows : List LeastRow) (bin_rows : List BinRow) (lot_rows : List LotRow) (recall_rows : List RecallRow) (stock_rows : List StockRow) : Type 0 where
   pub items : AreRows {K = ItemKey} same_item item_key (λ k. same_text l.gtin k) t.item item_rows
-  pub least : AreRows {K = LeastKey} same_least least_key (λ k. same_text l.gtin k) t.least least_rows
+  pub least : AreRows {K = ItemKey} same_item least_key (λ k. same_text l.gtin k) t.least least_rows
   pub bins : AreRows {K = BinKey} same_bin bin_key (λ k. same_text bin k) t.bin bin_rows
   pub lots : AreRows {K = LotKey} same_lot lot_key (same_lot l) t.lot lot_rows
-  pub recalls : AreRows {K = RecallKey} same_recall recall_key (λ k. same_text l.gtin k.gtin) t.recall recall_rows
+  pub recalls : AreRows {K = LotKey} same_lot recall_key (λ k. same_text l.gtin k.gtin) t.recall recall_rows
   pub stock : AreRows {K = StockKey} same_stock stock_key (λ k. same_lot_id l k.0) (λ k. t.stock k.0 k.1) stock_rows
 
 -- the order and its line of the item, and not whether it is urgent

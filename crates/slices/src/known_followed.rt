@@ -1,6 +1,6 @@
 //! Rows that follow what is written, from what is known of them, and from the tables where nothing is.
 
-ghost use Rattle.std.specs.Prelude.{◌≡◌, Some, filter, IfOk};
+ghost use Rattle.std.specs.Prelude.{◌≡◌, ⊤, Some, filter, IfOk};
 ghost use Rattle.sqlite.specs.Held.{state};
 ghost use Rattle.table_words.specs.Typed.{same_lot_id};
 ghost use Rattle.tables.specs.Stock.{AreStockOf, AreStockOfLot};
@@ -15,6 +15,7 @@ use crate::rows_known::RowsKnown;
 use crate::sought_rows::read_rows;
 use crate::{seek_all_known, seek_known};
 use commands::{MetaRow, ReservedRow, StagedRow, StockRow};
+use keyed_rows::reading::All;
 use row_rules::row_search::rows_with;
 use sqlite::{Alter, Transaction};
 use std::alloc::{AllocError, Global};
@@ -85,7 +86,23 @@ pub fn seek_stock_of_lots<S: Alter>(
     Ok(found)
 }
 
-/// What is staged of items, one after another.
+// All that is staged is known by the item from then on, if it is not too much.
+fn know_staged<S: Alter>(
+    alloc: Global,
+    tx: &mut Transaction<'_, S>,
+    rows: &mut RowsKnown,
+) -> Result<(), TableFault>
+    ensures same_reference { tx.new.conn.ghost_name ≡ tx.old.conn.ghost_name }
+    ensures read { IsRead (Learning rows.old rows.new (λ t u. ⊤)) (state S.Store tx.old.conn.now) (state S.Store tx.new.conn.now) result }
+{
+    if rows.followed.staged.wants_all() {
+        let all = read_rows::<Staged, All, S>(alloc, tx, &All)?;
+        rows.followed.staged.keep_all(all.as_slice());
+    }
+    Ok(())
+}
+
+/// What is staged of items, one after another: no index serves such reads, so all of it is known first.
 pub fn seek_staged<S: Alter>(
     alloc: Global,
     tx: &mut Transaction<'_, S>,
@@ -95,6 +112,7 @@ pub fn seek_staged<S: Alter>(
     ensures same_reference { tx.new.conn.ghost_name ≡ tx.old.conn.ghost_name }
     ensures read { IsRead (Learning rows.old rows.new (λ t found. AreStaged gtins.now t found.items)) (state S.Store tx.old.conn.now) (state S.Store tx.new.conn.now) result }
 {
+    know_staged(alloc, tx, rows)?;
     seek_all_known::<Staged, Gtin, TextKey, S>(alloc, tx, &mut rows.followed.staged, gtins)
 }
 
@@ -126,7 +144,23 @@ pub fn seek_staged_of<S: Alter>(
     Ok(own)
 }
 
-/// What is reserved of items, one after another.
+// All that is reserved is known by the item from then on, if it is not too much.
+fn know_reserved<S: Alter>(
+    alloc: Global,
+    tx: &mut Transaction<'_, S>,
+    rows: &mut RowsKnown,
+) -> Result<(), TableFault>
+    ensures same_reference { tx.new.conn.ghost_name ≡ tx.old.conn.ghost_name }
+    ensures read { IsRead (Learning rows.old rows.new (λ t u. ⊤)) (state S.Store tx.old.conn.now) (state S.Store tx.new.conn.now) result }
+{
+    if rows.followed.reserved.wants_all() {
+        let all = read_rows::<Reserved, All, S>(alloc, tx, &All)?;
+        rows.followed.reserved.keep_all(all.as_slice());
+    }
+    Ok(())
+}
+
+/// What is reserved of items, one after another: no index serves such reads, so all of it is known first.
 pub fn seek_reserved<S: Alter>(
     alloc: Global,
     tx: &mut Transaction<'_, S>,
@@ -136,6 +170,7 @@ pub fn seek_reserved<S: Alter>(
     ensures same_reference { tx.new.conn.ghost_name ≡ tx.old.conn.ghost_name }
     ensures read { IsRead (Learning rows.old rows.new (λ t found. Each (λ g found_rows. AreReservedOfItem g t found_rows) gtins.now found.items)) (state S.Store tx.old.conn.now) (state S.Store tx.new.conn.now) result }
 {
+    know_reserved(alloc, tx, rows)?;
     seek_all_known::<Reserved, Gtin, TextKey, S>(alloc, tx, &mut rows.followed.reserved, gtins)
 }
 

@@ -1,5 +1,6 @@
 -- The numbers of acts and shipments, and the expiries, of the rows of a history fit into their columns.
-use Rattle.store.proofs.Words.{◌≡◌, ℕ, ◌+◌, ◌≤◌, Bool, true, false, ◌&&◌, List, [], ◌∷◌, find, length, Option, Some, None, refl, subst, arith, ℤ, pos, int_le, int_lt, nat_le, is_some, if◌then◌else◌, option_map, AllByRecursion, list_all, cons_option, nat_tests, ints, is_between, is_name, is_title, is_qty, same_text, LotId, is_day, is_business_day, has_order_lines, is_sound, is_new_order, is_order_line, are_lines, is_lot_id, key_text, spelling, NewOrder, Receipt, Command, Receive, Order, Urgent, Ship, Recall, OpenDay, ACTS_MAX, LotRow, RecallRow, OrderRow, UrgentRow, ShipmentRow, RepeatRow, is_expiry, fits_meta, fits_row, lot_mapping, recall_mapping, order_mapping, urgent_mapping, shipment_mapping, fits_repeat, Act, gathered, next_number, KnownLot, lot_among, lots, lots_after, lot_known, Recalling, recall_in, recalling, Placed, order_in, orders, order_named, lines_placed, lines_of, shipments, shipments_after, day_after_command, today, IsHistory, reply, verdict, lot_row, recall_row, order_row, if_urgent, urgent_row, shipment_row, repeat_row, meta_row, and_both, some_one, receive_accepted, shipments_within_acts, acts_within}
+use Rattle.store.proofs.Words.{◌≡◌, ℕ, ◌+◌, ◌≤◌, Bool, true, false, ◌&&◌, List, [], ◌∷◌, find, length, Option, Some, None, refl, subst, arith, ℤ, pos, int_le, int_lt, nat_le, is_some, if◌then◌else◌, option_map, AllByRecursion, list_all, cons_option, nat_tests, ints, is_between, is_name, is_title, is_qty, same_text, LotId, is_day, is_business_day, has_order_lines, is_sound, is_new_order, is_order_line, are_lines, is_lot_id, key_text, spelling, NewOrder, Receipt, Command, Receive, Order, Urgent, Ship, Recall, OpenDay, ACTS_MAX, LotRow, RecallRow, OrderRow, UrgentRow, ShipmentRow, RepeatRow, is_expiry, fits_meta, fits_row, lot_mapping, recall_mapping, order_mapping, urgent_mapping, shipment_mapping, fits_repeat, Act, gathered, next_number, KnownLot, lot_among, lots, lots_after, lot_known, Recalling, recall_in, recalling, Placed, order_in, orders, order_named, lines_placed, lines_of, shipments, shipments_after, day_after_command, today, IsHistory, reply, verdict, lot_row, recall_row, order_row, if_urgent, urgent_row, shipment_row, repeat_row, meta_row, and_both, some_one, receive_accepted, shipments_within_acts, acts_within, is_gtin, is_least_days, LEAST_DAYS_MAX, NewLeast, LeastRow, least_mapping, least_in, days_asked, item_named, least_row}
+use Rattle.commands.specs.declared.command.Command.TheVariants.{Least}
 
 -- ---- numbers
 
@@ -79,6 +80,22 @@ module _ (first : ℤ) (acts : List Act) (history : IsHistory first acts) where
             | true ↦ λ g. subst (λ (r : UrgentRow). fits_row urgent_mapping r ≡ true) (some_one _ row g) (order_right o p named).0
             | false ↦ λ g. absurd (let no : None ≡ Some row = g in cc)
           ] f
+
+-- ---- days that are asked for
+
+abbrev IsLeastRight : NewLeast → Type 0
+IsLeastRight l = nat_le l.days LEAST_DAYS_MAX ≡ true
+
+least_right : (n : ℕ) (c : Command) (l : NewLeast) → is_between 1 ACTS_MAX n ≡ true → is_sound c ≡ true → least_in n c ≡ Some l → IsLeastRight l
+least_right n (Least own) l fits sound e = subst IsLeastRight (some_one _ l e) (and_both (nat_le 0 own.days) (nat_le own.days LEAST_DAYS_MAX) (and_both (is_gtin own.gtin) (is_least_days own.days) sound).1).1
+least_right n _ l fits sound e = absurd (let no : None ≡ Some l = e in cc)
+
+pub least_fits : (first : ℤ) (acts : List Act) → IsHistory first acts → (g : List ℕ) (row : LeastRow) → least_row acts g ≡ Some row → fits_row least_mapping row ≡ true
+least_fits first acts history g row e = mapped_has (λ (r : LeastRow). fits_row least_mapping r ≡ true) _ (item_named acts g) row e (λ item named. asked item.gtin _ refl)
+  where
+    asked : (gtin : List ℕ) (o : Option NewLeast) → find (λ l. same_text gtin l.gtin) (gathered least_in acts) ≡ o → nat_le (days_asked o) LEAST_DAYS_MAX ≡ true
+    asked gtin None found = refl
+    asked gtin (Some l) found = found_has IsLeastRight _ (gathered least_in acts) l (gathered_have least_in IsLeastRight least_right first acts history) found
 
 -- ---- recalls
 

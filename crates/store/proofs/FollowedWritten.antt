@@ -1,5 +1,5 @@
 -- The rows that follow what is written are those of the tables that a change leaves.
-use Rattle.store.proofs.Words.{◌≡◌, ℕ, Bool, true, false, inl, inr, List, refl, sym, ap, subst, ◌∙◌, if◌then◌else◌, reverse, Option, Some, None, IfSome, nat_cmp, is_eq, Ordering, slice_cmp, same_text, Tables, MetaRow, RepeatRow, StagedRow, AreRows, same_lot, same_line, same_staged, staged_key, with_repeat, without_staged, Change, turned_line, line_key_cmp, lines_told, turned_lot, lot_key_cmp, lots_told, names_told, with_row, without_row, each_written, AreStagedOfItem, AreStagedOfOrder, staged_laws, TableName, Meta, Lots, Orders, Urgents, Lines, Stock, Staged, Reserved, family, Row, described, look, puts, drops, stage_emptied, emptied, table_written, change_written, table_left, is_at, are_same, RowMap, rows_at, ChangesBy, Remembers, with_put, without_listed, remembers_none, known_as, known_put, known_dropped, KnowsStaged, KnowsStagedFor, KnowsMeta, KnowsFollowed, StageLeft, StagedFollows, StageForgotten, StagedForFollows, Follows, Followed}
+use Rattle.store.proofs.Words.{◌≡◌, ℕ, Bool, false, inl, inr, List, refl, sym, ap, subst, ◌∙◌, if◌then◌else◌, reverse, Option, Some, None, IfSome, nat_cmp, is_eq, Ordering, slice_cmp, same_text, Tables, MetaRow, RepeatRow, StagedRow, AreRows, same_lot, same_line, same_staged, staged_key, with_repeat, without_staged, Change, turned_line, line_key_cmp, lines_told, turned_lot, lot_key_cmp, lots_told, names_told, with_row, without_row, each_written, AreStagedOfItem, AreStagedOfOrder, staged_laws, TableName, Meta, Lots, Orders, Urgents, Lines, Stock, Staged, Reserved, family, Row, described, look, puts, drops, stage_emptied, emptied, table_written, change_written, table_left, is_at, are_same, RowMap, rows_at, ChangesBy, Remembers, with_put, without_listed, remembers_none, known_as, known_put, known_dropped, KnowsStaged, KnowsStagedFor, KnowsMeta, KnowsFollowed, StageLeft, StagedFollows, StageForgotten, StagedForFollows, Follows, Followed}
 use Rattle.whole_tables.specs.Family.{Key}
 use Rattle.store.proofs.StageEmptied.{staged_at, without_order, rows_gone, others_stay}
 
@@ -64,15 +64,13 @@ module _ (c : Change) (row : RepeatRow) (t : Tables) where
   -- and by the order
   stage_forgotten : (stage : Option (List ℕ)) → c.dropped.stage ≡ stage → (old new : RowMap (List ℕ) StagedRow) → StageForgotten stage old new → KnowsStagedFor t old → KnowsStagedFor emptied_left new
   stage_forgotten None is old new same known by = by_name t emptied_left (sym (none_emptied is)) new (subst (KnowsStagedFor t) (sym same) known) by
-  stage_forgotten (Some order) is old new forgets known by = told (same_text by order) refl
+  stage_forgotten (Some order) is old new forgets known by = told (rows_at (slice_cmp nat_cmp) new (reverse by)) (forgets (reverse by))
     where
-      others : same_text by order ≡ false → (x : Option (List StagedRow)) → IfSome x (AreStagedOfOrder by t) → IfSome x (AreStagedOfOrder by emptied_left)
-      others apart None h = tt
-      others apart (Some rows) h = others_stay order t emptied_left (one_emptied order is) by apart rows h
-
-      told : (b : Bool) → same_text by order ≡ b → IfSome (rows_at (slice_cmp nat_cmp) new (reverse by)) (AreStagedOfOrder by emptied_left)
-      told true e = subst (λ (x : Option (List StagedRow)). IfSome x (AreStagedOfOrder by emptied_left)) (sym (forgets (reverse by) ∙ ap (λ b. if b then None else rows_at (slice_cmp nat_cmp) old (reverse by)) (names_told by order ∙ e))) tt
-      told false e = subst (λ (x : Option (List StagedRow)). IfSome x (AreStagedOfOrder by emptied_left)) (sym (forgets (reverse by) ∙ ap (λ b. if b then None else rows_at (slice_cmp nat_cmp) old (reverse by)) (names_told by order ∙ e))) (others e (rows_at (slice_cmp nat_cmp) old (reverse by)) (known by))
+      told : (x : Option (List StagedRow)) → IfSome x (λ found. (rows_at (slice_cmp nat_cmp) old (reverse by) ≡ Some found) × (is_eq (slice_cmp nat_cmp (reverse order) (reverse by)) ≡ false)) → IfSome x (AreStagedOfOrder by emptied_left)
+      told None h = tt
+      told (Some rows) h =
+          let were : AreStagedOfOrder by t rows = subst (λ (y : Option (List StagedRow)). IfSome y (AreStagedOfOrder by t)) h.0 (known by) in
+          others_stay order t emptied_left (one_emptied order is) by (sym (names_told by order) ∙ h.1) rows were
 
   staged_for_followed : (old new : RowMap (List ℕ) StagedRow) → StagedForFollows c.put c.dropped old new → KnowsStagedFor t old → KnowsStagedFor left new
   staged_for_followed old new (first, mid, forgets, drops, puts) known =

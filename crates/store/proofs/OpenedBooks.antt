@@ -1,5 +1,5 @@
 -- From a connection that was found open to the books over it.
-use Rattle.store.proofs.Words.{◌≡◌, inl, inr, ℕ, Bool, true, false, ◌&&◌, List, [], ◌∷◌, ◌++◌, filter, map, slice_get, IsTrue, Result, Err, refl, sym, ap, subst, ◌∙◌, arith, ◌≤◌, ◌⊎◌, ℤ, pos, codes, nat_eq, None, Some, option_map, find, if◌then◌else◌, AllByRecursion, cases_Bool, eqb-true, is_business_day, Tables, ACTS_MAX, SCHEMA_VERSION, MetaRow, Value, Int, column, all_weaker, Ghosts, doubt, Database, Held, state, State, HasCleanDisk, Opens, IsLive, Survives, Schema, Table, Trees, is_the_number, is_the_text, is_signed, is_number, meta_tree, least_tree, least_table, urgents_tree, urgents_table, the_tables, tables_in, is_meta, is_meta_at, meta_in, meta_at, same_meta, meta_key, AreTyped, TableFault, TableStore, TableForeign, tables_same, typed_same, typed_at, KeepsRows, as_older, as_brought, number, older_tables, OlderBooks, First, Second, HasDayAt, IsNumbered, each_itself, ready_tells, older_tells, HasDayIn, HasSchema, IsReadyAs, AreReadTyped, KeepsRowsAs, ComesTo, IsCome, IsLeftAs, IsOpenAndSettled, Tells, TellTables, Found, Newest, Older, Leftover, Act, today, are_of_schema, tables_of, and_both, and_false, first_books_go_on, second_books_go_on, AreRowsOf, KeepsBooks, fault_of, Fault, third_number, AreThirdRowsOf, AreOlderRowsOf, OlderRowsGoOn, AreRowsAt, AreFoundRows, MayCome, IsOpenedFrom, IsOpenedAsFound, IsLeftOver, unlimited, Store, Foreign}
+use Rattle.store.proofs.Words.{◌≡◌, inl, inr, ℕ, Bool, true, false, ◌&&◌, List, [], ◌∷◌, ◌++◌, filter, map, slice_get, IsTrue, Result, Err, refl, sym, ap, subst, ◌∙◌, arith, ◌≤◌, ◌⊎◌, ℤ, pos, codes, nat_eq, None, Some, option_map, find, if◌then◌else◌, AllByRecursion, cases_Bool, eqb-true, is_business_day, Tables, ACTS_MAX, SCHEMA_VERSION, MetaRow, Value, Int, column, all_weaker, Ghosts, doubt, Database, Held, state, State, HasCleanDisk, Opens, IsLive, Survives, Schema, Table, Trees, is_the_number, is_the_text, is_signed, is_number, meta_table, least_table, urgents_table, the_tables, tables_in, is_meta, is_meta_at, meta_in, meta_at, same_meta, meta_key, AreTyped, TableFault, TableStore, TableForeign, tables_same, typed_same, typed_at, KeepsRows, as_older, as_brought, number, older_tables, OlderBooks, First, Second, HasDayAt, IsNumbered, each_itself, ready_tells, older_tells, HasDayIn, HasSchema, IsReadyAs, AreReadTyped, KeepsRowsAs, ComesTo, IsCome, IsLeftAs, IsOpenAndSettled, Tells, TellTables, Found, Newest, Older, Leftover, Act, today, are_of_schema, tables_of, and_both, and_false, first_books_go_on, second_books_go_on, AreRowsOf, KeepsBooks, fault_of, Fault, third_number, AreThirdRowsOf, AreOlderRowsOf, OlderRowsGoOn, AreRowsAt, AreFoundRows, MayCome, IsOpenedFrom, IsOpenedAsFound, IsLeftOver, unlimited, Store, Foreign}
 use Rattle.sqlite_value.specs.Order.{Row}
 use Rattle.books_schema.specs.Settling.{IsRaised}
 use Rattle.books_schema.specs.Opening.{IsLeft}
@@ -38,18 +38,18 @@ typed_among P read (r ∷ rows) all = elim (read r) as (λ b. AllByRecursion P (
 
 -- ---- of a history
 
-newest_meta : (trees : Trees) → AreTyped trees → AllByRecursion (λ r. is_meta_at SCHEMA_VERSION r ≡ true) (trees meta_tree)
-newest_meta trees typed = typed_at 0 (record { tree = meta_tree; is = is_meta }) refl trees typed
+newest_meta : (trees : Trees) → AreTyped trees → AllByRecursion (λ r. is_meta_at SCHEMA_VERSION r ≡ true) (trees meta_table.tree)
+newest_meta trees typed = typed_at 0 (record { tree = meta_table.tree; is = is_meta }) refl trees typed
 
 newest_day : (trees : Trees) (first : ℤ) (acts : List Act) → AreRowsOf first acts trees → HasDayAt SCHEMA_VERSION trees (today first acts)
 unfolding tables_of
 newest_day trees first acts rows = record {
-  typed = typed_among (λ r. is_meta_at SCHEMA_VERSION r ≡ true) (λ r. is_the_number 1 (column r 0)) (trees meta_tree) (newest_meta trees rows.typed);
+  typed = typed_among (λ r. is_meta_at SCHEMA_VERSION r ≡ true) (λ r. is_the_number 1 (column r 0)) (trees meta_table.tree) (newest_meta trees rows.typed);
   found = ap (λ (t : Tables). option_map (λ (m : MetaRow). m.day) t.meta) rows.tables;
 }
 
 -- the rows of `meta` come first among those of older books
-older_meta : (older : OlderBooks) (trees : Trees) (first : ℤ) (acts : List Act) → AreOlderRowsOf older first acts trees → AllByRecursion (λ r. is_meta_at (number older) r ≡ true) (trees meta_tree)
+older_meta : (older : OlderBooks) (trees : Trees) (first : ℤ) (acts : List Act) → AreOlderRowsOf older first acts trees → AllByRecursion (λ r. is_meta_at (number older) r ≡ true) (trees meta_table.tree)
 older_meta First trees first acts rows = rows.typed.0
 older_meta Second trees first acts rows = rows.typed.0
 
@@ -63,14 +63,14 @@ older_day older trees first acts rows =
     let seen : Tables = record (tables_in trees) { meta = meta_at (number older) trees } in
     let same : meta_at (number older) trees ≡ (tables_of first acts).meta = sym (same_meta_as older seen) ∙ ap (λ (t : Tables). t.meta) rows.tables in
     record {
-      typed = typed_among (λ r. is_meta_at (number older) r ≡ true) (λ r. is_the_number 1 (column r 0)) (trees meta_tree) (older_meta older trees first acts rows);
+      typed = typed_among (λ r. is_meta_at (number older) r ≡ true) (λ r. is_the_number 1 (column r 0)) (trees meta_table.tree) (older_meta older trees first acts rows);
       found = ap (option_map (λ (m : MetaRow). m.day)) same;
     }
 
 pub third_day : (trees : Trees) (first : ℤ) (acts : List Act) → AreThirdRowsOf first acts trees → HasDayAt third_number trees (today first acts)
 unfolding tables_of
 third_day trees first acts rows = record {
-  typed = typed_among (λ r. is_meta_at third_number r ≡ true) (λ r. is_the_number 1 (column r 0)) (trees meta_tree) rows.typed.0;
+  typed = typed_among (λ r. is_meta_at third_number r ≡ true) (λ r. is_the_number 1 (column r 0)) (trees meta_table.tree) rows.typed.0;
   found = ap (λ (t : Tables). option_map (λ (m : MetaRow). m.day) t.meta) rows.tables;
 }
 
@@ -116,9 +116,9 @@ none_of_other n m apart [] all = refl
 none_of_other n m apart (r ∷ rows) all = ap (λ b. if b then r ∷ filter (is_meta_at n) rows else filter (is_meta_at n) rows) (other_meta n m apart r all.0) ∙ none_of_other n m apart rows all.1
 
 -- where all rows of `meta` are of one number, none has a day under another
-no_day : (n m : ℕ) → nat_eq n m ≡ false → (trees : Trees) (day : ℤ) → AllByRecursion (λ r. is_meta_at m r ≡ true) (trees meta_tree) → HasDayAt n trees day → ⊥
+no_day : (n m : ℕ) → nat_eq n m ≡ false → (trees : Trees) (day : ℤ) → AllByRecursion (λ r. is_meta_at m r ≡ true) (trees meta_table.tree) → HasDayAt n trees day → ⊥
 no_day n m apart trees day all has =
-    let none : meta_at n trees ≡ None = ap (λ rows. find (λ s. same_meta 1 (meta_key s)) (map meta_in rows)) (none_of_other n m apart (trees meta_tree) all) in
+    let none : meta_at n trees ≡ None = ap (λ rows. find (λ s. same_meta 1 (meta_key s)) (map meta_in rows)) (none_of_other n m apart (trees meta_table.tree) all) in
     let no : None ≡ Some day = sym (ap (option_map (λ (m : MetaRow). m.day)) none) ∙ has.found in
     cc
 
@@ -157,7 +157,7 @@ number_found (Older older) trees day has = record { version = number older; is =
 -- rows of the acts have this number of their books, and no other
 record AreNumbered (found : Found) (trees : Trees) (day : ℤ) : Type 0 where
   own : HasNumber found trees day
-  all : AllByRecursion (λ r. is_meta_at own.version r ≡ true) (trees meta_tree)
+  all : AllByRecursion (λ r. is_meta_at own.version r ≡ true) (trees meta_table.tree)
 
 rows_numbered : (found : Found) (trees : Trees) (first : ℤ) (acts : List Act) → AreRowsAt found first acts trees → AreNumbered found trees (today first acts)
 rows_numbered Newest trees first acts (inl rows) = record { own = record { version = SCHEMA_VERSION; is = inl refl; has = newest_day trees first acts rows }; all = newest_meta trees rows.typed }
@@ -193,12 +193,12 @@ unfolding tables_of_found
 others_apart Newest Newest xs ys same = refl
 others_apart (Older First) (Older First) xs ys same = refl
 others_apart (Older Second) (Older Second) xs ys same = refl
-others_apart Newest (Older First) xs ys same = let no : Some (least_table least_tree) ≡ None = ap (λ (tables : List Table). slice_get tables 14) same in cc
-others_apart Newest (Older Second) xs ys same = let no : Some (urgents_table urgents_tree) ≡ None = ap (λ (tables : List Table). slice_get tables 15) same in cc
-others_apart (Older First) Newest xs ys same = let no : None ≡ Some (least_table least_tree) = ap (λ (tables : List Table). slice_get tables 14) same in cc
-others_apart (Older First) (Older Second) xs ys same = let no : None ≡ Some (least_table least_tree) = ap (λ (tables : List Table). slice_get tables 14) same in cc
-others_apart (Older Second) Newest xs ys same = let no : None ≡ Some (urgents_table urgents_tree) = ap (λ (tables : List Table). slice_get tables 15) same in cc
-others_apart (Older Second) (Older First) xs ys same = let no : Some (least_table least_tree) ≡ None = ap (λ (tables : List Table). slice_get tables 14) same in cc
+others_apart Newest (Older First) xs ys same = let no : Some least_table ≡ None = ap (λ (tables : List Table). slice_get tables 14) same in cc
+others_apart Newest (Older Second) xs ys same = let no : Some urgents_table ≡ None = ap (λ (tables : List Table). slice_get tables 15) same in cc
+others_apart (Older First) Newest xs ys same = let no : None ≡ Some least_table = ap (λ (tables : List Table). slice_get tables 14) same in cc
+others_apart (Older First) (Older Second) xs ys same = let no : None ≡ Some least_table = ap (λ (tables : List Table). slice_get tables 14) same in cc
+others_apart (Older Second) Newest xs ys same = let no : None ≡ Some urgents_table = ap (λ (tables : List Table). slice_get tables 15) same in cc
+others_apart (Older Second) (Older First) xs ys same = let no : Some least_table ≡ None = ap (λ (tables : List Table). slice_get tables 14) same in cc
 
 pub one_found : (a b : Found) (schema : Schema) → HasSchema a schema → HasSchema b schema → a ≡ b
 one_found a b schema p q =

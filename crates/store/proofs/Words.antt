@@ -30,7 +30,7 @@ pub use Rattle.sqlite_value.specs.declared.value.Value.{Value}
 pub use Rattle.sqlite_value.specs.declared.value.Value.TheVariants.{Int}
 pub use Rattle.sqlite.proofs.StateLemmas.{survives_then, survives_weaker}
 pub use Rattle.sqlite_keyed.proofs.ListLemmas.{all_weaker, all-append}
-pub use Rattle.values.specs.Values.{is_between, is_name, is_title, is_qty, same_text, QTY_MAX, is_gtin, is_counted, is_delta}
+pub use Rattle.values.specs.Values.{is_between, is_name, is_title, is_qty, same_text, QTY_MAX, is_gtin, is_least_days, LEAST_DAYS_MAX, is_counted, is_delta}
 pub use Rattle.values.specs.declared.lot.LotId.{LotId}
 pub use Rattle.label.specs.Days.{is_day, is_business_day}
 pub use Rattle.commands.specs.Limits.{has_order_lines}
@@ -42,6 +42,7 @@ pub use Rattle.commands.specs.Tables.{Tables}
 pub use Rattle.commands.specs.declared.command.BinKind.TheVariants.{Hold}
 pub use Rattle.commands.specs.declared.command.Command.{Command}
 pub use Rattle.commands.specs.declared.command.Command.TheVariants.{Receive, Order, Urgent, Ship, Recall, OpenDay, Move, Count, Adjust, Pick, Unpick}
+pub use Rattle.commands.specs.declared.command.NewLeast.{NewLeast}
 pub use Rattle.commands.specs.declared.command.NewOrder.{NewOrder}
 pub use Rattle.commands.specs.declared.command.OrderLine.{OrderLine}
 pub use Rattle.commands.specs.declared.command.Receipt.{Receipt}
@@ -54,6 +55,7 @@ pub use Rattle.commands.specs.declared.rows.CardKind.{CardKind}
 pub use Rattle.commands.specs.declared.rows.CardKind.TheVariants.{WriteOn, WriteOff as WrittenOff, Shipment}
 pub use Rattle.commands.specs.declared.rows.CardRow.{CardRow}
 pub use Rattle.commands.specs.declared.rows.ItemRow.{ItemRow}
+pub use Rattle.commands.specs.declared.rows.LeastRow.{LeastRow}
 pub use Rattle.commands.specs.declared.rows.LineRow.{LineRow}
 pub use Rattle.commands.specs.declared.rows.LotRow.{LotRow}
 pub use Rattle.commands.specs.declared.rows.MetaRow.{MetaRow}
@@ -76,8 +78,8 @@ pub use Rattle.machine.specs.Postings.{Place, Supplier, InBin, Stage, Shipped, W
 pub use Rattle.machine.specs.Queries.{notice_shown, order_shown, short_shown, stock_shown}
 pub use Rattle.machine.specs.Replies.{reply}
 pub use Rattle.machine.specs.Schemas.{are_of_schema}
-pub use Rattle.machine.specs.Standing.{KnownLot, lot_among, lots, lots_after, lot_known, Recalling, recall_in, recalling, Placed, order_in, orders, order_named, lines_placed, lines_of, shipments, shipments_after, day_after_command, today, RETURNS, returns_bin, is_cancelled, shipments_so_far}
-pub use Rattle.machine.specs.Tables.{lot_row, recall_row, order_row, if_urgent, urgent_row, shipment_row, repeat_row, meta_row, bin_row, if_any, stock_row, line_row, staged_row, reserved_row, shipline_row, card_row}
+pub use Rattle.machine.specs.Standing.{KnownLot, lot_among, lots, lots_after, lot_known, Recalling, recall_in, recalling, least_in, days_asked, item_named, Placed, order_in, orders, order_named, lines_placed, lines_of, shipments, shipments_after, day_after_command, today, RETURNS, returns_bin, is_cancelled, shipments_so_far}
+pub use Rattle.machine.specs.Tables.{lot_row, least_row, recall_row, order_row, if_urgent, urgent_row, shipment_row, repeat_row, meta_row, bin_row, if_any, stock_row, line_row, staged_row, reserved_row, shipline_row, card_row}
 unfoldable pub use Rattle.machine.specs.Tables.{tables_of}
 pub use Rattle.machine.specs.Verdict.{verdict, names_item_twice}
 pub use Rattle.machine.specs.Views.{card_of_lot}
@@ -111,10 +113,10 @@ pub use Rattle.rows_in_memory.specs.OpenLines.{Keeps, has_line_row}
 pub use Rattle.rows_in_memory.proofs.Learned.{remembers_none}
 pub use Rattle.table_words.specs.Cells.{is_expiry, typed, is_the_number, is_the_text, is_signed, is_number, is_card_units}
 pub use Rattle.table_words.specs.Found.{AreRows}
-pub use Rattle.table_words.specs.Schema.{meta_tree, least_tree, least_table, urgents_tree, urgents_table, the_tables}
+pub use Rattle.table_words.specs.Schema.{meta_table, least_table, urgents_table, the_tables}
 pub use Rattle.table_words.specs.Steps.{IsReady, Goes}
 pub use Rattle.table_words.specs.Stored.{fits_row}
-pub use Rattle.table_words.specs.Typed.{lot_mapping, recall_mapping, order_mapping, urgent_mapping, shipment_mapping, tables_in, AreTyped, with_repeat, item_key, bin_key, with_item, with_bin, same_lot, same_line, same_staged, staged_key, without_staged, LineKey, with_order, with_urgent, with_line, order_key, is_open_order, is_meta, is_meta_at, meta_in, meta_at, same_meta, meta_key, RepeatKey, same_repeat, repeat_key, StagedKey, stock_mapping, line_mapping, staged_mapping, reserved_mapping, shipline_mapping, card_mapping}
+pub use Rattle.table_words.specs.Typed.{lot_mapping, least_mapping, recall_mapping, order_mapping, urgent_mapping, shipment_mapping, tables_in, AreTyped, with_repeat, item_key, bin_key, with_item, with_bin, same_lot, same_line, same_staged, staged_key, without_staged, LineKey, with_order, with_urgent, with_line, order_key, is_open_order, is_meta, is_meta_at, meta_in, meta_at, same_meta, meta_key, RepeatKey, same_repeat, repeat_key, StagedKey, stock_mapping, line_mapping, staged_mapping, reserved_mapping, shipline_mapping, card_mapping}
 pub use Rattle.table_words.specs.declared.error.TableFault.{TableFault}
 pub use Rattle.table_words.specs.declared.error.TableFault.TheVariants.{Store as TableStore, Foreign as TableForeign}
 pub use Rattle.table_words.proofs.CallLemmas.{kept_itself, kept_unchanged, kept_then, inside_itself, inside_then, put_back, kept_undone}
@@ -133,7 +135,7 @@ pub use Rattle.tables.specs.Staged.{AreStagedOfItem, AreStagedOfOrder, staged_la
 pub use Rattle.books_schema.specs.Bringing.{as_older, as_brought}
 pub use Rattle.books_schema.specs.Creation.{first_rows}
 pub use Rattle.books_schema.specs.Ending.{Ends}
-pub use Rattle.books_schema.specs.Indexing.{KeepsRows}
+pub use Rattle.books_schema.specs.Keeping.{KeepsRows}
 pub use Rattle.books_schema.specs.Older.{number, older_tables}
 pub use Rattle.books_schema.specs.Opening.{HasDayIn, HasSchema, IsReadyAs, AreReadTyped, KeepsRowsAs, ComesTo, IsCome, IsLeftAs, IsOpenAndSettled, Tells, TellTables}
 pub use Rattle.books_schema.specs.Settling.{HasDayAt, IsNumbered}

@@ -3,7 +3,7 @@ use Rattle.std.specs.Prelude.{◌≡◌, ◌⊎◌, ◌≤◌, List, ℕ, ℤ, t
 use Rattle.store.specs.Words.{Ghosts, Held, state, State, HasCleanDisk, Survives, Trees, IsReady, AreTypedAt, HasDayIn, IsReadyAs, AreReadTyped, KeepsRowsAs, ComesTo, IsClosed, TellTables, Act, tables_of}
 use Rattle.sqlite_trees.specs.View.{IsClean, doubt}
 use Rattle.books_schema.specs.Bringing.{as_older, as_brought, older_tables_in, AreOlderTyped}
-use Rattle.books_schema.specs.Indexing.{KeepsRows}
+use Rattle.books_schema.specs.Keeping.{KeepsRows}
 use Rattle.books_schema.specs.Older.{number}
 pub use Rattle.books_schema.specs.Opening.{HasSchema, IsOfNone, Tells}
 use Rattle.books_schema.specs.Settling.{third_tables_in, IsRaised}

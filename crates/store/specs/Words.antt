@@ -14,9 +14,9 @@ pub use Rattle.machine.specs.Once.{Outcome, IsHistory, is_key_of, bearer, outcom
 pub use Rattle.machine.specs.Standing.{day_after_command, today}
 pub use Rattle.machine.specs.Tables.{repeat_row, tables_of}
 pub use Rattle.table_words.specs.Steps.{IsReady, Goes}
-pub use Rattle.table_words.specs.Typed.{lot_mapping, recall_mapping, stock_mapping, order_mapping, urgent_mapping, line_mapping, staged_mapping, reserved_mapping, shipment_mapping, shipline_mapping, card_mapping, tables_in, AreTypedAt}
+pub use Rattle.table_words.specs.Typed.{tables_in, AreTypedAt}
 pub use Rattle.table_words.specs.declared.error.TableFault.{TableFault}
-pub use Rattle.tables.specs.Repeats.{repeats, fits_repeat}
+pub use Rattle.tables.specs.Repeats.{repeats}
 pub use Rattle.books_schema.specs.Opening.{TellTables, HasDayIn, IsReadyAs, AreReadTyped, KeepsRowsAs, ComesTo, IsClosed}
 pub use Rattle.slices.specs.Books.{IsBooksOf}
 pub use Rattle.slices.specs.declared.knowing.Known.{Known}

@@ -6,7 +6,6 @@ ghost use Rattle.sqlite.specs.Held.{state};
 ghost use Rattle.label.specs.Days.{is_business_day};
 ghost use Rattle.table_words.specs.Schema.{schema_0};
 ghost use Rattle.table_words.specs.declared.error.TableFault.TheVariants.{Foreign as ForeignTable};
-ghost use Rattle.books_schema.specs.Indexing.{HasIndexes};
 ghost use Rattle.machine.specs.Acts.{Act};
 ghost use Rattle.machine.specs.Once.{IsHistory, is_key_of, acts_after, acts_after_file};
 ghost use Rattle.machine.specs.Standing.{today, RETURNS};
@@ -156,13 +155,11 @@ impl<S: Alter + Drop> Books<S> {
 
 impl<S: Orderly + Drop> Books<S> {
     /// Opens the books that are in the tables. Further tables that refer to none, views and indexes that refuse no row
-    /// of the books are passed over, and those of the indexes of the books that are missing are made, in one transaction.
-    /// In it books of schema 3, which has the same tables, get the newest number. Books of schema 1 or 2, with nothing of
-    /// another's making beside them, are brought up to the newest, in one transaction too: from schema 1 each item asks
-    /// for 0 days, and no order is urgent. `Foreign` where a table or a column is missing or differs, or where the row of
-    /// `meta`, or in books of schema 1 an item, is missing or has a value that no row has; `Store` where memory or the disk
-    /// fails, and where something else has the name of an index that is missing. The tables then have the rows that they
-    /// had.
+    /// of the books are passed over. Books of schema 3, which has the same tables, get the newest number. Books of schema 1
+    /// or 2, with nothing of another's making beside them, are brought up to the newest, in one transaction: from schema 1
+    /// each item asks for 0 days, and no order is urgent. `Foreign` where a table or a column is missing or differs, or
+    /// where the row of `meta`, or in books of schema 1 an item, is missing or has a value that no row has; `Store` where
+    /// memory or the disk fails. The tables then have the rows that they had.
     pub fn open(alloc: Global, conn: Connection<S>) -> Result<Books<S>, OpenFault<S>>
         requires outside { conn.in_transaction ≡ false }
         ensures books { IfOk result (λ b. HasCleanDisk (state S.Store b.conn) → (first : ℤ) (acts : List Act) → IsHistory first acts → AreFoundRows first acts (state S.Store conn).committed.trees
@@ -175,7 +172,6 @@ impl<S: Orderly + Drop> Books<S> {
         ensures opens { IfOk result (λ b. IsOpenedFrom S.Store conn b.conn) }
         ensures open { IfOk result (λ b. HasCleanDisk (state S.Store b.conn) → IsTrue (state S.Store b.conn).is_open) }
         ensures settled { IfOk result (λ b. HasCleanDisk (state S.Store b.conn) → IsSettled (state S.Store b.conn)) }
-        ensures indexes { IfOk result (λ b. HasCleanDisk (state S.Store b.conn) → HasIndexes (state S.Store b.conn).now.schema) }
         ensures foreign { IfErr result (λ e. IsCleanLeft S.Store e.left → e.fault ≡ Fault.Foreign
             → IsOfNone (state S.Store conn).now.schema ⊎ IsForeignWithin (state S.Store conn)) }
         ensures known { IfErr result (λ e. IsCleanLeft S.Store e.left → (found : Found) → HasSchema found (state S.Store conn).now.schema → (first : ℤ) (acts : List Act) → IsHistory first acts

@@ -1,9 +1,19 @@
 -- From what a statement did to a table to what a call says.
 use Rattle.std.specs.List.{flat_map}
-use Rattle.table_words.proofs.Words.{◌≡◌, true≢false, inl, inr, ℕ, zero, suc, true, false, not, List, [], ◌∷◌, ◌++◌, slice_get, Some, subst, refl, sym, ◌∙◌, arith, nat_eq, AllByRecursion, list_all, list_any, filter_map, cases_eq, eq-eqb, ne_eqb, and_parts, not-true, nat_tests, Row, State, Database, Trees, with_tree, Schema, Table, Enforced, works, work_for, IsSound, all_both, all-slice_get, none_from_any, the_tables, schema_with, is_nil, refers_to_none, HasTables, IsRows, Changed, no_two, Tables, tables_in, Rule, the_rules, Keeps, AreTyped, IsReady, Goes}
+use Rattle.std.specs.Prelude.{if◌then◌else◌}
+use Rattle.table_words.proofs.Words.{◌≡◌, true≢false, inl, inr, ℕ, zero, suc, true, false, not, List, [], ◌∷◌, ◌++◌, slice_get, Some, subst, refl, sym, ap, ◌∙◌, arith, nat_eq, AllByRecursion, list_all, list_any, filter_map, cases_eq, eq-eqb, ne_eqb, and_parts, not-true, nat_tests, Row, State, Database, Trees, with_tree, Schema, Table, Enforced, works, work_for, IsSound, all_both, all-slice_get, none_from_any, the_tables, schema_with, is_nil, refers_to_none, HasTables, IsRows, Changed, no_two, Tables, tables_in, Rule, the_rules, Keeps, AreTyped, IsReady, Goes}
+
+-- these tables alone
+abbrev only : List Table → Trees → Trees
+only [] trees tree = []
+only (t ∷ ts) trees tree = if nat_eq t.tree tree then trees t.tree else only ts trees tree
+
+only_same : (ts : List Table) (old new : Trees) → AllByRecursion (λ t. new t.tree ≡ old t.tree) ts → only ts new ≡ only ts old
+only_same [] old new same = refl
+only_same (t ∷ ts) old new same = λ i tree. if nat_eq t.tree tree then same.0 i else only_same ts old new same.1 i tree
 
 pub tables_same : (old new : Trees) → AllByRecursion (λ t. new t.tree ≡ old t.tree) the_tables → tables_in new ≡ tables_in old
-tables_same old new same = rw (same.0, same.1.0, same.1.1.0, same.1.1.1.0, same.1.1.1.1.0, same.1.1.1.1.1.0, same.1.1.1.1.1.1.0, same.1.1.1.1.1.1.1.0, same.1.1.1.1.1.1.1.1.0, same.1.1.1.1.1.1.1.1.1.0, same.1.1.1.1.1.1.1.1.1.1.0, same.1.1.1.1.1.1.1.1.1.1.1.0, same.1.1.1.1.1.1.1.1.1.1.1.1.0, same.1.1.1.1.1.1.1.1.1.1.1.1.1.0, same.1.1.1.1.1.1.1.1.1.1.1.1.1.1.0, same.1.1.1.1.1.1.1.1.1.1.1.1.1.1.1.0) refl
+tables_same old new same = ap (λ trees. tables_in trees) (only_same the_tables old new same)
 
 pub typed_same : (old new : Trees) → AllByRecursion (λ t. new t.tree ≡ old t.tree) the_tables → AreTyped old → AreTyped new
 typed_same old new same h = record {

@@ -1,5 +1,5 @@
 -- The tables of the books, and the schemas that have them.
-use Rattle.std.specs.Prelude.{◌≡◌, Bool, true, false, not, ◌||◌, [], ◌∷◌, ◌++◌, Option, None, Some, List, ℕ, nat_lt, nat_eq, codes}
+use Rattle.std.specs.Prelude.{◌≡◌, Bool, true, false, not, ◌||◌, ◌+◌, [], ◌∷◌, ◌++◌, length, Option, None, Some, List, ℕ, nat_lt, nat_eq, codes}
 use Rattle.std.specs.List.{list_all, starts_with}
 use Rattle.sqlite.specs.Collation.TheVariants.{Binary}
 use Rattle.sqlite.specs.declared.types.Value.TheVariants.{Null}
@@ -46,102 +46,55 @@ keyed_table tree name columns places = plain_table tree name columns None places
 abbrev pub id_table : ℕ → List ℕ → List Column → Table
 id_table tree name columns = plain_table tree name columns (Some 0) (0 ∷ []) [] []
 
-abbrev pub meta_table : ℕ → Table
-meta_table tree = id_table tree (codes "meta") (number_column (codes "id") ∷ text_column (codes "mark") ∷ number_column (codes "version") ∷ number_column (codes "day") ∷ number_column (codes "acts") ∷ number_column (codes "shipments") ∷ [])
+-- The tables, each with its tree; those between them are the indexes of their keys.
 
-abbrev pub items_table : ℕ → Table
-items_table tree = keyed_table tree (codes "items") (text_column (codes "gtin") ∷ text_column (codes "name") ∷ []) (1 ∷ [])
+abbrev pub meta_table : Table
+meta_table = id_table 0 (codes "meta") (number_column (codes "id") ∷ text_column (codes "mark") ∷ number_column (codes "version") ∷ number_column (codes "day") ∷ number_column (codes "acts") ∷ number_column (codes "shipments") ∷ [])
 
-abbrev pub bins_table : ℕ → Table
-bins_table tree = keyed_table tree (codes "bins") (text_column (codes "name") ∷ text_column (codes "kind") ∷ []) (1 ∷ [])
+abbrev pub items_table : Table
+items_table = keyed_table 1 (codes "items") (text_column (codes "gtin") ∷ text_column (codes "name") ∷ []) (1 ∷ [])
 
-abbrev pub lots_table : ℕ → Table
-lots_table tree = keyed_table tree (codes "lots") (text_column (codes "gtin") ∷ text_column (codes "lot") ∷ number_column (codes "expiry") ∷ number_column (codes "came") ∷ number_column (codes "held") ∷ []) (1 ∷ 2 ∷ [])
+abbrev pub bins_table : Table
+bins_table = keyed_table 3 (codes "bins") (text_column (codes "name") ∷ text_column (codes "kind") ∷ []) (1 ∷ [])
 
-abbrev pub recalls_table : ℕ → Table
-recalls_table tree = keyed_table tree (codes "recalls") (text_column (codes "gtin") ∷ text_column (codes "lot") ∷ number_column (codes "act") ∷ []) (1 ∷ 2 ∷ [])
+abbrev pub lots_table : Table
+lots_table = keyed_table 5 (codes "lots") (text_column (codes "gtin") ∷ text_column (codes "lot") ∷ number_column (codes "expiry") ∷ number_column (codes "came") ∷ number_column (codes "held") ∷ []) (1 ∷ 2 ∷ [])
 
-abbrev pub stock_table : ℕ → Table
-stock_table tree = keyed_table tree (codes "stock") (text_column (codes "gtin") ∷ text_column (codes "lot") ∷ text_column (codes "bin") ∷ number_column (codes "qty") ∷ []) (1 ∷ 2 ∷ 3 ∷ [])
+abbrev pub recalls_table : Table
+recalls_table = keyed_table 7 (codes "recalls") (text_column (codes "gtin") ∷ text_column (codes "lot") ∷ number_column (codes "act") ∷ []) (1 ∷ 2 ∷ [])
 
-abbrev pub orders_table : ℕ → Table
-orders_table tree = keyed_table tree (codes "orders") (text_column (codes "ord") ∷ number_column (codes "act") ∷ text_column (codes "customer") ∷ text_column (codes "state") ∷ []) (1 ∷ [])
+abbrev pub stock_table : Table
+stock_table = keyed_table 9 (codes "stock") (text_column (codes "gtin") ∷ text_column (codes "lot") ∷ text_column (codes "bin") ∷ number_column (codes "qty") ∷ []) (1 ∷ 2 ∷ 3 ∷ [])
 
-abbrev pub lines_table : ℕ → Table
-lines_table tree = keyed_table tree (codes "lines") (text_column (codes "ord") ∷ text_column (codes "gtin") ∷ number_column (codes "ordered") ∷ number_column (codes "shipped") ∷ []) (1 ∷ 2 ∷ [])
+abbrev pub orders_table : Table
+orders_table = keyed_table 11 (codes "orders") (text_column (codes "ord") ∷ number_column (codes "act") ∷ text_column (codes "customer") ∷ text_column (codes "state") ∷ []) (1 ∷ [])
 
-abbrev pub staged_table : ℕ → Table
-staged_table tree = keyed_table tree (codes "staged") (text_column (codes "ord") ∷ text_column (codes "gtin") ∷ text_column (codes "lot") ∷ number_column (codes "qty") ∷ []) (1 ∷ 2 ∷ 3 ∷ [])
+abbrev pub lines_table : Table
+lines_table = keyed_table 13 (codes "lines") (text_column (codes "ord") ∷ text_column (codes "gtin") ∷ number_column (codes "ordered") ∷ number_column (codes "shipped") ∷ []) (1 ∷ 2 ∷ [])
 
-abbrev pub reserved_table : ℕ → Table
-reserved_table tree = keyed_table tree (codes "reserved") (text_column (codes "ord") ∷ text_column (codes "gtin") ∷ text_column (codes "lot") ∷ number_column (codes "qty") ∷ []) (1 ∷ 2 ∷ 3 ∷ [])
+abbrev pub staged_table : Table
+staged_table = keyed_table 15 (codes "staged") (text_column (codes "ord") ∷ text_column (codes "gtin") ∷ text_column (codes "lot") ∷ number_column (codes "qty") ∷ []) (1 ∷ 2 ∷ 3 ∷ [])
 
-abbrev pub shipments_table : ℕ → Table
-shipments_table tree = id_table tree (codes "shipments") (number_column (codes "number") ∷ number_column (codes "act") ∷ number_column (codes "day") ∷ text_column (codes "ord") ∷ [])
+abbrev pub reserved_table : Table
+reserved_table = keyed_table 17 (codes "reserved") (text_column (codes "ord") ∷ text_column (codes "gtin") ∷ text_column (codes "lot") ∷ number_column (codes "qty") ∷ []) (1 ∷ 2 ∷ 3 ∷ [])
 
-abbrev pub shiplines_table : ℕ → Table
-shiplines_table tree = keyed_table tree (codes "shiplines") (number_column (codes "number") ∷ text_column (codes "gtin") ∷ text_column (codes "lot") ∷ number_column (codes "qty") ∷ []) (1 ∷ 2 ∷ 3 ∷ [])
+abbrev pub shipments_table : Table
+shipments_table = id_table 19 (codes "shipments") (number_column (codes "number") ∷ number_column (codes "act") ∷ number_column (codes "day") ∷ text_column (codes "ord") ∷ [])
 
-abbrev pub cards_table : ℕ → Table
-cards_table tree = keyed_table tree (codes "cards") (text_column (codes "gtin") ∷ text_column (codes "lot") ∷ number_column (codes "act") ∷ number_column (codes "day") ∷ text_column (codes "kind") ∷ text_column (codes "note") ∷ number_column (codes "qty") ∷ number_column (codes "rest") ∷ []) (1 ∷ 2 ∷ 3 ∷ [])
+abbrev pub shiplines_table : Table
+shiplines_table = keyed_table 20 (codes "shiplines") (number_column (codes "number") ∷ text_column (codes "gtin") ∷ text_column (codes "lot") ∷ number_column (codes "qty") ∷ []) (1 ∷ 2 ∷ 3 ∷ [])
 
-abbrev pub repeats_table : ℕ → Table
-repeats_table tree = keyed_table tree (codes "repeats") (text_column (codes "k") ∷ number_column (codes "act") ∷ text_column (codes "spell") ∷ text_column (codes "reply") ∷ []) (1 ∷ [])
+abbrev pub cards_table : Table
+cards_table = keyed_table 22 (codes "cards") (text_column (codes "gtin") ∷ text_column (codes "lot") ∷ number_column (codes "act") ∷ number_column (codes "day") ∷ text_column (codes "kind") ∷ text_column (codes "note") ∷ number_column (codes "qty") ∷ number_column (codes "rest") ∷ []) (1 ∷ 2 ∷ 3 ∷ [])
 
-abbrev pub least_table : ℕ → Table
-least_table tree = keyed_table tree (codes "least") (text_column (codes "gtin") ∷ number_column (codes "days") ∷ []) (1 ∷ [])
+abbrev pub repeats_table : Table
+repeats_table = keyed_table 24 (codes "repeats") (text_column (codes "k") ∷ number_column (codes "act") ∷ text_column (codes "spell") ∷ text_column (codes "reply") ∷ []) (1 ∷ [])
 
-abbrev pub urgents_table : ℕ → Table
-urgents_table tree = keyed_table tree (codes "urgents") (text_column (codes "ord") ∷ number_column (codes "act") ∷ []) (1 ∷ [])
+abbrev pub least_table : Table
+least_table = keyed_table 26 (codes "least") (text_column (codes "gtin") ∷ number_column (codes "days") ∷ []) (1 ∷ [])
 
--- the trees of the tables; those between them are the indexes of their keys
-abbrev pub meta_tree : ℕ
-meta_tree = 0
-
-abbrev pub items_tree : ℕ
-items_tree = 1
-
-abbrev pub bins_tree : ℕ
-bins_tree = 3
-
-abbrev pub lots_tree : ℕ
-lots_tree = 5
-
-abbrev pub recalls_tree : ℕ
-recalls_tree = 7
-
-abbrev pub stock_tree : ℕ
-stock_tree = 9
-
-abbrev pub orders_tree : ℕ
-orders_tree = 11
-
-abbrev pub lines_tree : ℕ
-lines_tree = 13
-
-abbrev pub staged_tree : ℕ
-staged_tree = 15
-
-abbrev pub reserved_tree : ℕ
-reserved_tree = 17
-
-abbrev pub shipments_tree : ℕ
-shipments_tree = 19
-
-abbrev pub shiplines_tree : ℕ
-shiplines_tree = 20
-
-abbrev pub cards_tree : ℕ
-cards_tree = 22
-
-abbrev pub repeats_tree : ℕ
-repeats_tree = 24
-
-abbrev pub least_tree : ℕ
-least_tree = 26
-
-abbrev pub urgents_tree : ℕ
-urgents_tree = 28
+abbrev pub urgents_table : Table
+urgents_table = keyed_table 28 (codes "urgents") (text_column (codes "ord") ∷ number_column (codes "act") ∷ []) (1 ∷ [])
 
 -- the schema with nothing in it
 abbrev pub schema_0 : Schema
@@ -152,29 +105,29 @@ schema_0 = record { tables = []; indexes = []; views = [] }
 -- the tables of schema 1, in their order
 abbrev pub first_tables : List Table
 first_tables =
-    meta_table meta_tree
-    ∷ items_table items_tree
-    ∷ bins_table bins_tree
-    ∷ lots_table lots_tree
-    ∷ recalls_table recalls_tree
-    ∷ stock_table stock_tree
-    ∷ orders_table orders_tree
-    ∷ lines_table lines_tree
-    ∷ staged_table staged_tree
-    ∷ reserved_table reserved_tree
-    ∷ shipments_table shipments_tree
-    ∷ shiplines_table shiplines_tree
-    ∷ cards_table cards_tree
-    ∷ repeats_table repeats_tree
+    meta_table
+    ∷ items_table
+    ∷ bins_table
+    ∷ lots_table
+    ∷ recalls_table
+    ∷ stock_table
+    ∷ orders_table
+    ∷ lines_table
+    ∷ staged_table
+    ∷ reserved_table
+    ∷ shipments_table
+    ∷ shiplines_table
+    ∷ cards_table
+    ∷ repeats_table
     ∷ []
 
 -- those of schema 2
 abbrev pub second_tables : List Table
-second_tables = first_tables ++ least_table least_tree ∷ []
+second_tables = first_tables ++ least_table ∷ []
 
 -- the tables of the books, in their order
 abbrev pub the_tables : List Table
-the_tables = second_tables ++ urgents_table urgents_tree ∷ []
+the_tables = second_tables ++ urgents_table ∷ []
 
 -- the tables of the books, and then those of the rest, with its indexes and views
 abbrev pub schema_with : Schema → Schema
@@ -188,9 +141,15 @@ is_nil (x ∷ xs) = false
 abbrev pub refers_to_none : Table → Bool
 refers_to_none t = is_nil t.references
 
+-- the last tree of these tables and of their keys
+abbrev pub last_tree_of : List Table → ℕ
+last_tree_of [] = 0
+last_tree_of (t ∷ []) = t.tree + length t.uniques
+last_tree_of (t ∷ next ∷ more) = last_tree_of (next ∷ more)
+
 -- the index is not UNIQUE, or is that of a table beside those of the books, or of a key
 abbrev pub is_harmless : Index → Bool
-is_harmless i = not i.is_unique || (nat_lt 29 i.table || starts_with nat_eq i.name (codes "sqlite_autoindex_"))
+is_harmless i = not i.is_unique || (nat_lt (last_tree_of the_tables) i.table || starts_with nat_eq i.name (codes "sqlite_autoindex_"))
 
 -- The schema has the tables of the books. Others may follow that refer to none, and there may be any views, and any
 -- indexes that refuse no row of the books.

@@ -30,7 +30,7 @@ use Rattle.commands.specs.declared.rows.ShiplineRow.{ShiplineRow}
 use Rattle.commands.specs.declared.rows.CardRow.{CardRow}
 use Rattle.commands.specs.declared.rows.RepeatRow.{RepeatRow}
 use Rattle.table_words.specs.Stored.{Columns, Mapping, one, pair, text_stored, number_stored, count_stored, signed_stored, day_stored, flag_stored, bin_kind_stored, order_state_stored, card_kind_stored, is_stored_row, stored_rows}
-use Rattle.table_words.specs.Schema.{meta_tree, items_tree, bins_tree, lots_tree, recalls_tree, stock_tree, orders_tree, lines_tree, staged_tree, reserved_tree, shipments_tree, shiplines_tree, cards_tree, repeats_tree, least_tree, urgents_tree}
+use Rattle.table_words.specs.Schema.{meta_table, items_table, bins_table, lots_table, recalls_table, stock_table, orders_table, lines_table, staged_table, reserved_table, shipments_table, shiplines_table, cards_table, repeats_table, least_table, urgents_table}
 
 abbrev pub same_lot_id : LotId → LotId → Bool
 same_lot_id a b = bytes_eq a.gtin b.gtin && bytes_eq a.lot b.lot
@@ -70,11 +70,11 @@ meta_cells version s = Int (pos 1) ∷ Text (codes "LOTSTOCK") ∷ Int (pos vers
 
 -- the stored rows of this id
 abbrev pub meta_rows_rows : ℕ → Trees → List Row
-meta_rows_rows id trees = filter (λ r. is_the_number id (column r 0)) (trees meta_tree)
+meta_rows_rows id trees = filter (λ r. is_the_number id (column r 0)) (trees meta_table.tree)
 
 -- the typed row in books of this schema number, if there is one
 abbrev pub meta_at : ℕ → Trees → Option MetaRow
-meta_at version trees = find (λ s. same_meta 1 (meta_key s)) (typed (is_meta_at version) meta_in (trees meta_tree))
+meta_at version trees = find (λ s. same_meta 1 (meta_key s)) (typed (is_meta_at version) meta_in (trees meta_table.tree))
 
 -- ---- items
 
@@ -95,13 +95,7 @@ item_key s = s.gtin
 abbrev pub least_mapping : Mapping LeastRow (List ℕ × ℕ)
 least_mapping = record { columns = pair (text_stored is_gtin) (one (number_stored LEAST_DAYS_MAX)); parts = λ s. (s.gtin, s.days); of = λ p. record { gtin = p.0; days = p.1 } }
 
-abbrev pub LeastKey : Type 0
-LeastKey = List ℕ
-
-abbrev pub same_least : LeastKey → LeastKey → Bool
-same_least a b = bytes_eq a b
-
-abbrev pub least_key : LeastRow → LeastKey
+abbrev pub least_key : LeastRow → ItemKey
 least_key s = s.gtin
 
 -- ---- bins
@@ -141,13 +135,7 @@ lot_key s = s.lot
 abbrev pub recall_mapping : Mapping RecallRow (List ℕ × (List ℕ × ℕ))
 recall_mapping = record { columns = pair (text_stored is_gtin) (pair (text_stored is_lot_text) (one (count_stored ACTS_MAX))); parts = λ s. (s.lot.gtin, (s.lot.lot, s.act)); of = λ p. record { lot = record { gtin = p.0; lot = p.1.0 }; act = p.1.1 } }
 
-abbrev pub RecallKey : Type 0
-RecallKey = LotId
-
-abbrev pub same_recall : RecallKey → RecallKey → Bool
-same_recall a b = same_lot_id a b
-
-abbrev pub recall_key : RecallRow → RecallKey
+abbrev pub recall_key : RecallRow → LotKey
 recall_key s = s.lot
 
 -- ---- stock
@@ -186,13 +174,7 @@ is_open_order s = is_open_state s.state
 abbrev pub urgent_mapping : Mapping UrgentRow (List ℕ × ℕ)
 urgent_mapping = record { columns = pair (text_stored is_name) (one (count_stored ACTS_MAX)); parts = λ s. (s.order, s.act); of = λ p. record { order = p.0; act = p.1 } }
 
-abbrev pub UrgentKey : Type 0
-UrgentKey = List ℕ
-
-abbrev pub same_urgent : UrgentKey → UrgentKey → Bool
-same_urgent a b = bytes_eq a b
-
-abbrev pub urgent_key : UrgentRow → UrgentKey
+abbrev pub urgent_key : UrgentRow → OrderKey
 urgent_key s = s.order
 
 -- ---- lines
@@ -313,21 +295,21 @@ repeat_key s = s.k
 abbrev pub tables_in : Trees → Tables
 tables_in trees = record {
   meta = meta_at SCHEMA_VERSION trees;
-  item = λ gtin. find (λ s. same_item gtin (item_key s)) (stored_rows item_mapping (trees items_tree));
-  least = λ gtin. find (λ s. same_least gtin (least_key s)) (stored_rows least_mapping (trees least_tree));
-  bin = λ name. find (λ s. same_bin name (bin_key s)) (stored_rows bin_mapping (trees bins_tree));
-  lot = λ lot. find (λ s. same_lot lot (lot_key s)) (stored_rows lot_mapping (trees lots_tree));
-  recall = λ lot. find (λ s. same_recall lot (recall_key s)) (stored_rows recall_mapping (trees recalls_tree));
-  stock = λ lot bin. find (λ s. same_stock (lot, bin) (stock_key s)) (stored_rows stock_mapping (trees stock_tree));
-  order = λ order. find (λ s. same_order order (order_key s)) (stored_rows order_mapping (trees orders_tree));
-  urgent = λ order. find (λ s. same_urgent order (urgent_key s)) (stored_rows urgent_mapping (trees urgents_tree));
-  line = λ order gtin. find (λ s. same_line (order, gtin) (line_key s)) (stored_rows line_mapping (trees lines_tree));
-  staged = λ order lot. find (λ s. same_staged (order, lot) (staged_key s)) (stored_rows staged_mapping (trees staged_tree));
-  reserved = λ order lot. find (λ s. same_reserved (order, lot) (reserved_key s)) (stored_rows reserved_mapping (trees reserved_tree));
-  shipment = λ number. find (λ s. same_shipment number (shipment_key s)) (typed is_stored_shipment stored_shipment (trees shipments_tree));
-  shipline = λ number lot. find (λ s. same_shipline (number, lot) (shipline_key s)) (stored_rows shipline_mapping (trees shiplines_tree));
-  card = λ lot act. find (λ s. same_card (lot, act) (card_key s)) (stored_rows card_mapping (trees cards_tree));
-  repeat = λ k. find (λ s. same_repeat k (repeat_key s)) (stored_rows repeat_mapping (trees repeats_tree));
+  item = λ gtin. find (λ s. same_item gtin (item_key s)) (stored_rows item_mapping (trees items_table.tree));
+  least = λ gtin. find (λ s. same_item gtin (least_key s)) (stored_rows least_mapping (trees least_table.tree));
+  bin = λ name. find (λ s. same_bin name (bin_key s)) (stored_rows bin_mapping (trees bins_table.tree));
+  lot = λ lot. find (λ s. same_lot lot (lot_key s)) (stored_rows lot_mapping (trees lots_table.tree));
+  recall = λ lot. find (λ s. same_lot lot (recall_key s)) (stored_rows recall_mapping (trees recalls_table.tree));
+  stock = λ lot bin. find (λ s. same_stock (lot, bin) (stock_key s)) (stored_rows stock_mapping (trees stock_table.tree));
+  order = λ order. find (λ s. same_order order (order_key s)) (stored_rows order_mapping (trees orders_table.tree));
+  urgent = λ order. find (λ s. same_order order (urgent_key s)) (stored_rows urgent_mapping (trees urgents_table.tree));
+  line = λ order gtin. find (λ s. same_line (order, gtin) (line_key s)) (stored_rows line_mapping (trees lines_table.tree));
+  staged = λ order lot. find (λ s. same_staged (order, lot) (staged_key s)) (stored_rows staged_mapping (trees staged_table.tree));
+  reserved = λ order lot. find (λ s. same_reserved (order, lot) (reserved_key s)) (stored_rows reserved_mapping (trees reserved_table.tree));
+  shipment = λ number. find (λ s. same_shipment number (shipment_key s)) (typed is_stored_shipment stored_shipment (trees shipments_table.tree));
+  shipline = λ number lot. find (λ s. same_shipline (number, lot) (shipline_key s)) (stored_rows shipline_mapping (trees shiplines_table.tree));
+  card = λ lot act. find (λ s. same_card (lot, act) (card_key s)) (stored_rows card_mapping (trees cards_table.tree));
+  repeat = λ k. find (λ s. same_repeat k (repeat_key s)) (stored_rows repeat_mapping (trees repeats_table.tree));
 }
 
 -- which of the rows that a tree stores read as typed ones
@@ -342,29 +324,29 @@ rule_for tree m = record { tree = tree; is = is_stored_row m }
 -- a rule for each table of schema 1, in their order, in books of this schema number
 abbrev pub first_rules : ℕ → List Rule
 first_rules version =
-    record { tree = meta_tree; is = is_meta_at version }
-    ∷ rule_for items_tree item_mapping
-    ∷ rule_for bins_tree bin_mapping
-    ∷ rule_for lots_tree lot_mapping
-    ∷ rule_for recalls_tree recall_mapping
-    ∷ rule_for stock_tree stock_mapping
-    ∷ rule_for orders_tree order_mapping
-    ∷ rule_for lines_tree line_mapping
-    ∷ rule_for staged_tree staged_mapping
-    ∷ rule_for reserved_tree reserved_mapping
-    ∷ record { tree = shipments_tree; is = is_stored_shipment }
-    ∷ rule_for shiplines_tree shipline_mapping
-    ∷ rule_for cards_tree card_mapping
-    ∷ rule_for repeats_tree repeat_mapping
+    record { tree = meta_table.tree; is = is_meta_at version }
+    ∷ rule_for items_table.tree item_mapping
+    ∷ rule_for bins_table.tree bin_mapping
+    ∷ rule_for lots_table.tree lot_mapping
+    ∷ rule_for recalls_table.tree recall_mapping
+    ∷ rule_for stock_table.tree stock_mapping
+    ∷ rule_for orders_table.tree order_mapping
+    ∷ rule_for lines_table.tree line_mapping
+    ∷ rule_for staged_table.tree staged_mapping
+    ∷ rule_for reserved_table.tree reserved_mapping
+    ∷ record { tree = shipments_table.tree; is = is_stored_shipment }
+    ∷ rule_for shiplines_table.tree shipline_mapping
+    ∷ rule_for cards_table.tree card_mapping
+    ∷ rule_for repeats_table.tree repeat_mapping
     ∷ []
 
 -- and for each table of schema 2
 abbrev pub second_rules : ℕ → List Rule
-second_rules version = first_rules version ++ rule_for least_tree least_mapping ∷ []
+second_rules version = first_rules version ++ rule_for least_table.tree least_mapping ∷ []
 
 -- a rule for each table, in the order of the tables
 abbrev pub rules_at : ℕ → List Rule
-rules_at version = second_rules version ++ rule_for urgents_tree urgent_mapping ∷ []
+rules_at version = second_rules version ++ rule_for urgents_table.tree urgent_mapping ∷ []
 
 abbrev pub the_rules : List Rule
 the_rules = rules_at SCHEMA_VERSION
@@ -392,7 +374,7 @@ abbrev pub with_item : ItemRow → Tables → Tables
 with_item s t = record t { item = λ at_gtin. if same_item at_gtin (item_key s) then Some s else t.item at_gtin }
 
 abbrev pub with_least : LeastRow → Tables → Tables
-with_least s t = record t { least = λ at_gtin. if same_least at_gtin (least_key s) then Some s else t.least at_gtin }
+with_least s t = record t { least = λ at_gtin. if same_item at_gtin (least_key s) then Some s else t.least at_gtin }
 
 abbrev pub with_bin : BinRow → Tables → Tables
 with_bin s t = record t { bin = λ at_name. if same_bin at_name (bin_key s) then Some s else t.bin at_name }
@@ -401,7 +383,7 @@ abbrev pub with_order : OrderRow → Tables → Tables
 with_order s t = record t { order = λ at_order. if same_order at_order (order_key s) then Some s else t.order at_order }
 
 abbrev pub with_urgent : UrgentRow → Tables → Tables
-with_urgent s t = record t { urgent = λ at_order. if same_urgent at_order (urgent_key s) then Some s else t.urgent at_order }
+with_urgent s t = record t { urgent = λ at_order. if same_order at_order (urgent_key s) then Some s else t.urgent at_order }
 
 abbrev pub with_line : LineRow → Tables → Tables
 with_line s t = record t { line = λ at_order at_gtin. if same_line (at_order, at_gtin) (line_key s) then Some s else t.line at_order at_gtin }
@@ -412,5 +394,6 @@ without_staged order lot t = record t { staged = λ at_order at_lot. if same_sta
 abbrev pub with_repeat : RepeatRow → Tables → Tables
 with_repeat s t = record t { repeat = λ at_k. if same_repeat at_k (repeat_key s) then Some s else t.repeat at_k }
 
+-- what stands where no tree stores a row
 abbrev pub no_rows : Tables
-no_rows = record { meta = None; item = λ _. None; least = λ _. None; bin = λ _. None; lot = λ _. None; recall = λ _. None; stock = λ _ _. None; order = λ _. None; urgent = λ _. None; line = λ _ _. None; staged = λ _ _. None; reserved = λ _ _. None; shipment = λ _. None; shipline = λ _ _. None; card = λ _ _. None; repeat = λ _. None }
+no_rows = tables_in (λ tree. [])

@@ -1,4 +1,4 @@
-//! What the sixteen tables of the books are, and what their columns read as.
+//! What the tables of the books are, and what their columns read as.
 #![tactic(auto)]
 
 pub mod chain;

@@ -1,5 +1,5 @@
 -- The lines of an order of which all units are shipped, by one statement.
-use Rattle.tables.proofs.Words.{◌≡◌, ℕ, Bool, true, false, ◌&&◌, not, List, [], ◌∷◌, drop, nat_le, inl, inr, refl, sym, ap, ap₂, ◌∙◌, bytes_eq, cases_Bool, true≢false, and_parts, arith, ints, nat_tests, int_cmp, Some, pos, negsuc, Text, Int, Value, Row, Has, rowid, column, bytes, id_in, is_true, from_truth, Binary, Compare, Le, Ge, is_null, State, Database, all_has, all-slice_get, are_typed, are_present, is_of, Constraint, Datatype, NotNull, passes_rule, schema_with, IsReady, Goes, Counts, is_word, is_number, is_count, counted, same_word, cast_all, cast_number, passes, show, value_cmp, value_cmp-Int, QTY_MAX, lines, lines_laws, lines_tree, lines_table, lines_fill_is, filled_tests, filled_columns, filled_line, lines_filled, FILL_LINES, None, is_gtin, is_name}
+use Rattle.tables.proofs.Words.{◌≡◌, ℕ, Bool, true, false, ◌&&◌, not, List, [], ◌∷◌, drop, nat_le, inl, inr, refl, sym, ap, ap₂, ◌∙◌, bytes_eq, cases_Bool, true≢false, and_parts, arith, ints, nat_tests, int_cmp, Some, pos, negsuc, Text, Int, Value, Row, Has, rowid, column, bytes, id_in, is_true, from_truth, Binary, Compare, Le, Ge, is_null, State, Database, all_has, all-slice_get, are_typed, are_present, is_of, Constraint, Datatype, NotNull, passes_rule, schema_with, IsReady, Goes, Counts, is_word, is_number, is_count, counted, same_word, cast_all, cast_number, passes, show, value_cmp, value_cmp-Int, QTY_MAX, lines, lines_laws, lines_table, lines_fill_is, filled_tests, filled_columns, filled_line, lines_filled, FILL_LINES, None, is_gtin, is_name}
 use Rattle.sqlite_sql.specs.Ops.{binary}
 use Rattle.sqlite_schema.specs.declared.schema.Kind.TheVariants as kind
 use Rattle.std.specs.Ordering.{is_ge, is_le}
@@ -39,12 +39,12 @@ columns_of (i ∷ a ∷ b ∷ m ∷ n ∷ more) typed present =
     let has = four (not (is_null a)) (not (is_null b)) (not (is_null m)) (not (is_null n)) true present in
     record { order = text_there a of.0 has.0; gtin = text_there b of.1 has.1; ordered = int_there m of.2 has.2; shipped = int_there n of.3 has.3 }
 
-are_columns : (db : Database) → IsReady db → (r : Row) → Has (db.trees lines_tree) r → AreLineColumns r
+are_columns : (db : Database) → IsReady db → (r : Row) → Has (db.trees lines_table.tree) r → AreLineColumns r
 are_columns db ready r there =
     let schema = schema_with ready.has.rest in
-    let kept : (rule : Constraint) → passes_rule rule schema db.trees (lines_table lines_tree) r ≡ true = λ rule.
-    all_has (λ row. passes_rule rule schema db.trees (lines_table lines_tree) row ≡ true) (db.trees lines_tree) r
-    (all-slice_get _ schema.tables 7 (lines_table lines_tree) (lines_laws.placed ready.has.rest) (ready.sound.obeys.rules rule)) there in
+    let kept : (rule : Constraint) → passes_rule rule schema db.trees lines_table r ≡ true = λ rule.
+    all_has (λ row. passes_rule rule schema db.trees lines_table row ≡ true) (db.trees lines_table.tree) r
+    (all-slice_get _ schema.tables 7 lines_table (lines_laws.placed ready.has.rest) (ready.sound.obeys.rules rule)) there in
     columns_of r (and_parts _ _ (kept Datatype)).0 (kept NotNull)
 
 -- ---- the tests

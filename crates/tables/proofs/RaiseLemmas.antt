@@ -1,5 +1,5 @@
 -- What the statement that changes the row of `meta` makes of books of an older schema number.
-use Rattle.tables.proofs.Words.{◌≡◌, ◌≢◌, ℕ, Bool, true, false, List, [], ◌∷◌, drop, filter, find, length, inl, inr, None, IsTrue, refl, sym, ap, subst, ◌∙◌, AllByRecursion, cases_Bool, and_parts, true≢false, Int, ◌↔◌, pos, map, Row, column, State, with_tree, runs_as, all_both, rowid, is_int, SCHEMA_VERSION, MetaRow, CHANGE_META, meta, meta_laws, change_meta, change_meta_laws, Counts, is_the_number, Changed, meta_tree, the_tables, schema_with, IsReady, Goes, is_meta, is_meta_at, meta_in, same_meta, meta_key, meta_rows_rows, meta_at, with_meta, the_rules, Rule, Keeps, AreTyped, AreTypedAt, none_counted_pass, passes, updates, and_true, same_the_number, equals_number, front, sets_off_nothing, sound, changes, rows_of}
+use Rattle.tables.proofs.Words.{◌≡◌, ◌≢◌, ℕ, Bool, true, false, List, [], ◌∷◌, drop, filter, find, length, inl, inr, None, IsTrue, refl, sym, ap, subst, ◌∙◌, AllByRecursion, cases_Bool, and_parts, true≢false, Int, ◌↔◌, pos, map, Row, column, State, with_tree, runs_as, all_both, rowid, is_int, SCHEMA_VERSION, MetaRow, CHANGE_META, meta, meta_laws, change_meta, change_meta_laws, Counts, is_the_number, Changed, meta_table, the_tables, schema_with, IsReady, Goes, is_meta, is_meta_at, meta_in, same_meta, meta_key, meta_rows_rows, meta_at, with_meta, the_rules, Rule, Keeps, AreTyped, AreTypedAt, none_counted_pass, passes, updates, and_true, same_the_number, equals_number, front, sets_off_nothing, sound, changes, rows_of}
 use Rattle.table_words.proofs.ListLemmas.{over}
 
 -- a row of `meta` is found by its id, whatever its number
@@ -22,14 +22,14 @@ module _ (s : MetaRow) (good : sound meta s ≡ true) (old new : State) (count :
   p = passes (meta.cells s) meta.tests
 
   abbrev rows : List Row
-  rows = old.now.trees meta_tree
+  rows = old.now.trees meta_table.tree
 
-  turned : Changed (schema_with ready.has.rest) meta_tree (over p (change_meta.values s) rows) old.now new.now × (count ≡ length (filter p rows))
+  turned : Changed (schema_with ready.has.rest) meta_table.tree (over p (change_meta.values s) rows) old.now new.now × (count ≡ length (filter p rows))
   turned =
       let rest = ready.has.rest in
       let kept = rows_of meta meta_laws old.now ready in
       let w = runs_as change_meta.text (meta.cells s) old new (schema_with rest) ready.has.is _ (change_meta_laws.is rest).0 (change_meta_laws.is rest).1 count h.executes.0 in
-      updates (schema_with rest) meta.place meta_tree _ _ _ _ _ _ (meta_laws.placed rest) (λ olds news. sets_off_nothing rest meta_tree olds news ready.has.apart) old new meta.tests change_meta.terms _ (meta.cells s) (λ _. change_meta.values s) count ready.has.is kept
+      updates (schema_with rest) meta.place meta_table.tree _ _ _ _ _ _ (meta_laws.placed rest) (λ olds news. sets_off_nothing rest meta_table.tree olds news ready.has.apart) old new meta.tests change_meta.terms _ (meta.cells s) (λ _. change_meta.values s) count ready.has.is kept
       (change_meta_laws.changed s) (λ _ _ _. change_meta_laws.casts s) w
 
   pub raised_some : count ≢ 0 → Goes (with_meta s) old new
@@ -60,7 +60,7 @@ module _ (s : MetaRow) (good : sound meta s ≡ true) (old new : State) (count :
         absurd (true≢false (sym (found_at SCHEMA_VERSION s r stays.0) ∙ by_id s r int.0 ∙ e))
   ]
 
-  trees_are : AllByRecursion (λ t. new.now.trees t.tree ≡ with_tree old.now.trees meta_tree (over p (change_meta.values s) rows) t.tree) the_tables
+  trees_are : AllByRecursion (λ t. new.now.trees t.tree ≡ with_tree old.now.trees meta_table.tree (over p (change_meta.values s) rows) t.tree) the_tables
   trees_are = front _ the_tables ready.has.rest.tables turned.0.trees_are
 
   put_typed : (version : ℕ) → AreTypedAt version old.now.trees → AreTyped new.now.trees

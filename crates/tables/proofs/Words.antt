@@ -43,7 +43,7 @@ pub use Rattle.table_words.specs.Calls.{Counts}
 pub use Rattle.table_words.specs.Cells.{is_number, typed, is_the_number, is_word, is_count}
 pub use Rattle.table_words.specs.Changed.{Changed}
 pub use Rattle.table_words.specs.Found.{AreRows}
-pub use Rattle.table_words.specs.Schema.{schema_with, cards_tree, meta_tree, the_tables, lines_tree, lines_table}
+pub use Rattle.table_words.specs.Schema.{schema_with, cards_table, meta_table, the_tables, lines_table}
 pub use Rattle.table_words.specs.Steps.{IsReady, Goes}
 pub use Rattle.table_words.specs.Typed.{same_lot_id, tables_in, AreTyped, is_meta_at, meta_in, has_meta, meta_read, MetaKey, same_meta, meta_key, meta_rows_rows, is_meta, meta_at, with_meta, the_rules, Rule, Keeps, AreTypedAt}
 pub use Rattle.table_words.proofs.CallLemmas.{on_ok_if, if_ok, if_err, query_same}

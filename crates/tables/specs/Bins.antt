@@ -1,6 +1,6 @@
 -- The table `bins`.
 use Rattle.std.specs.Prelude.{◌≡◌, ◌∷◌}
-use Rattle.tables.specs.Words.{ℕ, List, [], codes, refl, ap, and_parts, Value, Text, Chosen, rowid, with_rowid, is_name, Tables, BinRow, ADD_BIN, BINS_OF, ALL_BINS, stored_row, one, none, text_stored, bins_tree, bins_table, bin_mapping, same_bin, bin_key, cast_null, bin_kind_back, same_bytes, itself_bytes, All, Described, IsLawful, AddIs, key_found, Asks, for_all, by_text, AreSought, IsText, IsAsked, planned, IsMapped, one_keyed}
+use Rattle.tables.specs.Words.{ℕ, List, [], codes, refl, ap, and_parts, Value, Text, Chosen, rowid, with_rowid, is_name, Tables, BinRow, ADD_BIN, BINS_OF, ALL_BINS, stored_row, one, none, text_stored, bins_table, bin_mapping, same_bin, bin_key, cast_null, bin_kind_back, same_bytes, itself_bytes, All, Described, IsLawful, key_found, Asks, for_all, by_text, AreSought, IsText, IsAsked, planned, one_keyed}
 use Rattle.sqlite.specs.Listing.{understood}
 use Rattle.sqlite_tied.specs.Compute.{everything}
 
@@ -8,9 +8,9 @@ use Rattle.sqlite_tied.specs.Compute.{everything}
 abbrev pub bins : Described BinRow (List ℕ)
 bins = planned bin_mapping (record {
   place = 2;
-  tree = bins_tree;
+  tree = bins_table.tree;
   name = codes "bins";
-  columns = (bins_table bins_tree).columns;
+  columns = bins_table.columns;
   key = bin_key;
   same = same_bin;
   key_cells = λ k. Text k ∷ [];
@@ -36,24 +36,18 @@ all_bins = for_all ALL_BINS.now
 name_text : IsText bins 1 (λ k. k)
 name_text = record { rule = is_name; has = λ r h. (and_parts _ _ h).0; reads = λ r. refl }
 
-add_is : AddIs bins
-unfolding understood everything
-add_is rest = (refl, (refl, refl))
-
 -- what is written reads as the row
 back : (id : Value) (s : BinRow) → stored_row bin_mapping (id ∷ bins.cells s) ≡ s
 back id s = ap (λ x. let r : BinRow = record { name = s.name; kind = x } in r) (bin_kind_back s.kind)
 
-pub bins_mapped : IsMapped bin_mapping.columns 2 bin_mapping bins
-bins_mapped = record { few = refl; cells = λ s. refl; has = λ r. refl; seen = λ r. refl; back = λ s. refl }
-
 pub bins_laws : IsLawful bins
+unfolding understood everything
 bins_laws = record {
   placed_first = refl;
   placed = λ rest. refl;
   itself = itself_bytes;
   one_key = same_bytes;
-  one_row = λ db ready params. one_keyed db ready 2 bins_tree (codes "bins") (bins_table bins_tree).columns (1 ∷ []) refl refl params;
+  one_row = λ db ready params. one_keyed db ready 2 bins_table.tree (codes "bins") bins_table.columns (1 ∷ []) refl refl params;
   at_key = key_found bins bins_of.columns (name_text, tt);
   own_key = λ s r. refl;
   looks = λ trees. refl;
@@ -62,7 +56,7 @@ bins_laws = record {
   ruled = refl;
   has_shown = λ params r. refl;
   seen_shown = λ params r. refl;
-  add_is = add_is;
+  add_is = λ rest. (refl, (refl, refl));
   added = λ s. refl;
   casts = λ s. rw cast_null refl;
   comes = λ s rows sound. (refl, (sound, back (rowid (with_rowid Chosen rows (bins.source s))) s));

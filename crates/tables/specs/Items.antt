@@ -1,6 +1,6 @@
 -- The table `items`.
 use Rattle.std.specs.Prelude.{◌∷◌}
-use Rattle.tables.specs.Words.{ℕ, List, [], codes, refl, and_parts, Text, is_gtin, Tables, ItemRow, ADD_ITEM, ITEMS_OF, ALL_ITEMS, one, none, text_stored, items_tree, items_table, item_mapping, same_item, item_key, cast_null, same_bytes, itself_bytes, All, Described, IsLawful, AddIs, key_found, Asks, for_all, by_text, AreSought, IsText, IsAsked, planned, IsMapped, one_keyed}
+use Rattle.tables.specs.Words.{ℕ, List, [], codes, refl, and_parts, Text, is_gtin, Tables, ItemRow, ADD_ITEM, ITEMS_OF, ALL_ITEMS, one, none, text_stored, items_table, item_mapping, same_item, item_key, cast_null, same_bytes, itself_bytes, All, Described, IsLawful, key_found, Asks, for_all, by_text, AreSought, IsText, IsAsked, planned, one_keyed}
 use Rattle.sqlite.specs.Listing.{understood}
 use Rattle.sqlite_tied.specs.Compute.{everything}
 
@@ -8,9 +8,9 @@ use Rattle.sqlite_tied.specs.Compute.{everything}
 abbrev pub items : Described ItemRow (List ℕ)
 items = planned item_mapping (record {
   place = 1;
-  tree = items_tree;
+  tree = items_table.tree;
   name = codes "items";
-  columns = (items_table items_tree).columns;
+  columns = items_table.columns;
   key = item_key;
   same = same_item;
   key_cells = λ k. Text k ∷ [];
@@ -36,20 +36,14 @@ all_items = for_all ALL_ITEMS.now
 gtin_text : IsText items 1 (λ k. k)
 gtin_text = record { rule = is_gtin; has = λ r h. (and_parts _ _ h).0; reads = λ r. refl }
 
-add_is : AddIs items
-unfolding understood everything
-add_is rest = (refl, (refl, refl))
-
-pub items_mapped : IsMapped item_mapping.columns 2 item_mapping items
-items_mapped = record { few = refl; cells = λ s. refl; has = λ r. refl; seen = λ r. refl; back = λ s. refl }
-
 pub items_laws : IsLawful items
+unfolding understood everything
 items_laws = record {
   placed_first = refl;
   placed = λ rest. refl;
   itself = itself_bytes;
   one_key = same_bytes;
-  one_row = λ db ready params. one_keyed db ready 1 items_tree (codes "items") (items_table items_tree).columns (1 ∷ []) refl refl params;
+  one_row = λ db ready params. one_keyed db ready 1 items_table.tree (codes "items") items_table.columns (1 ∷ []) refl refl params;
   at_key = key_found items items_of.columns (gtin_text, tt);
   own_key = λ s r. refl;
   looks = λ trees. refl;
@@ -58,7 +52,7 @@ items_laws = record {
   ruled = refl;
   has_shown = λ params r. refl;
   seen_shown = λ params r. refl;
-  add_is = add_is;
+  add_is = λ rest. (refl, (refl, refl));
   added = λ s. refl;
   casts = λ s. rw cast_null refl;
   comes = λ s rows sound. (refl, (sound, refl));

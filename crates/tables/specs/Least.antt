@@ -1,6 +1,6 @@
 -- The table `least`.
 use Rattle.std.specs.Prelude.{◌≡◌, ◌∷◌}
-use Rattle.tables.specs.Words.{ℕ, Bool, true, nat_lt, List, [], codes, refl, ◌∙◌, pos, and_parts, Value, Int, Text, Binary, Row, column, Compare, Gt, binary, is_true, is_gtin, LEAST_DAYS_MAX, Tables, LeastRow, CHANGE_LEAST, ADD_LEAST, LEAST_OF, ASKING_LEAST, AreRows, only_if, is_stored_row, stored_row, one, text_stored, least_tree, least_table, least_mapping, same_least, least_key, same, by_rowid, passes, in_order, cast_number, cast_null, and_true, same_bytes, itself_bytes, Asking, Described, IsLawful, AddIs, Change, ChangeIs, IsChange, Query, QueryIs, IsSought, key_found, Asks, by_text, AreSought, IsText, IsAsked, planned, whole_change, IsMapped, above, above_count, one_keyed, rows_of, found_by_test}
+use Rattle.tables.specs.Words.{ℕ, Bool, true, nat_lt, List, [], codes, refl, ◌∙◌, pos, and_parts, Value, Int, Text, Binary, Row, column, Compare, Gt, binary, is_true, is_gtin, LEAST_DAYS_MAX, Tables, LeastRow, CHANGE_LEAST, ADD_LEAST, LEAST_OF, ASKING_LEAST, AreRows, only_if, is_stored_row, stored_row, one, text_stored, least_table, least_mapping, same_item, least_key, same, by_rowid, passes, in_order, cast_number, cast_null, and_true, same_bytes, itself_bytes, Asking, Described, IsLawful, Change, ChangeIs, IsChange, Query, QueryIs, IsSought, key_found, Asks, by_text, AreSought, IsText, IsAsked, planned, whole_change, above, above_count, one_keyed, rows_of, found_by_test}
 use Rattle.sqlite.specs.Listing.{understood}
 use Rattle.sqlite_tied.specs.Compute.{everything}
 
@@ -8,11 +8,11 @@ use Rattle.sqlite_tied.specs.Compute.{everything}
 abbrev pub least : Described LeastRow (List ℕ)
 least = planned least_mapping (record {
   place = 14;
-  tree = least_tree;
+  tree = least_table.tree;
   name = codes "least";
-  columns = (least_table least_tree).columns;
+  columns = least_table.columns;
   key = least_key;
-  same = same_least;
+  same = same_item;
   key_cells = λ gtin. Text gtin ∷ [];
   key_places = 1 ∷ [];
   look = λ t gtin. t.least gtin;
@@ -52,7 +52,7 @@ asking = record {
 }
 
 abbrev pub AreAsking : Asking → Tables → List LeastRow → Type 0
-AreAsking by t rows = AreRows {K = List ℕ} same_least least_key (λ k. true) (λ k. only_if is_asking (t.least k)) rows
+AreAsking by t rows = AreRows {K = List ℕ} same_item least_key (λ k. true) (λ k. only_if is_asking (t.least k)) rows
 
 -- ---- what holds of them
 
@@ -63,20 +63,14 @@ change_is : ChangeIs least change_least
 unfolding understood everything
 change_is rest = (refl, (refl, refl))
 
-add_is : AddIs least
-unfolding understood everything
-add_is rest = (refl, (refl, refl))
-
-pub least_mapped : IsMapped least_mapping.columns 2 least_mapping least
-least_mapped = record { few = refl; cells = λ s. refl; has = λ r. refl; seen = λ r. refl; back = λ s. refl }
-
 pub least_laws : IsLawful least
+unfolding understood everything
 least_laws = record {
   placed_first = refl;
   placed = λ rest. refl;
   itself = itself_bytes;
   one_key = same_bytes;
-  one_row = λ db ready params. one_keyed db ready 14 least_tree (codes "least") (least_table least_tree).columns (1 ∷ []) refl refl params;
+  one_row = λ db ready params. one_keyed db ready 14 least_table.tree (codes "least") least_table.columns (1 ∷ []) refl refl params;
   at_key = key_found least least_of.columns (gtin_text, tt);
   own_key = λ s r. refl;
   looks = λ trees. refl;
@@ -85,7 +79,7 @@ least_laws = record {
   ruled = refl;
   has_shown = λ params r. refl;
   seen_shown = λ params r. refl;
-  add_is = add_is;
+  add_is = λ rest. (refl, (refl, refl));
   added = λ s. refl;
   casts = λ s. rw (cast_null, cast_number (pos s.days)) refl;
   comes = λ s rows sound. (refl, (sound, refl));
@@ -115,6 +109,6 @@ asking_laws = record {
   is = asking_is;
   at = asking_at;
   at_stored = λ by r int. and_true _;
-  ordered = λ db ready by rows a. in_order db.trees (asking.params by) least_tree asking.tests least.shown rows (rows_of least least_laws db ready).0 a;
+  ordered = λ db ready by rows a. in_order db.trees (asking.params by) least_table.tree asking.tests least.shown rows (rows_of least least_laws db ready).0 a;
   finds = λ db ready by xs are. found_by_test least least_laws is_asking db ready xs are;
 }

@@ -1,6 +1,6 @@
 -- The table `lines`.
 use Rattle.std.specs.Prelude.{◌∷◌, if◌then◌else◌, option_map}
-use Rattle.tables.specs.Words.{ℕ, bytes_eq, List, [], codes, refl, pos, and_parts, Text, Int, Binary, Compare, Le, Ge, Term, col, lit, op2, same, is_gtin, is_name, Tables, LineRow, ADD_LINE, CHANGE_LINE, FILL_LINES, LINES_OF_ORDER, LINE_OF, one, pair, text_stored, lines_tree, lines_table, LineKey, same_line, line_key, line_mapping, cast_number, cast_null, same_both, same_bytes, itself_both, itself_bytes, Described, IsLawful, AddIs, Change, ChangeIs, IsChange, key_found, Asks, of_key, by_text, by_key, AreSought, IsText, IsAsked, IsMapped, planned, whole_change, one_keyed}
+use Rattle.tables.specs.Words.{ℕ, bytes_eq, List, [], codes, refl, pos, and_parts, Text, Int, Binary, Compare, Le, Ge, Term, col, lit, op2, same, is_gtin, is_name, Tables, LineRow, ADD_LINE, CHANGE_LINE, FILL_LINES, LINES_OF_ORDER, LINE_OF, one, pair, text_stored, lines_table, LineKey, same_line, line_key, line_mapping, cast_number, cast_null, same_both, same_bytes, itself_both, itself_bytes, Described, IsLawful, Change, ChangeIs, IsChange, key_found, Asks, of_key, by_text, by_key, AreSought, IsText, IsAsked, planned, whole_change, one_keyed}
 use Rattle.sqlite.specs.Listing.{understood}
 use Rattle.sqlite_tied.specs.Compute.{everything}
 use Rattle.tables.specs.Filling.{FillsBy}
@@ -9,9 +9,9 @@ use Rattle.tables.specs.Filling.{FillsBy}
 abbrev pub lines : Described LineRow LineKey
 lines = planned line_mapping (record {
   place = 7;
-  tree = lines_tree;
+  tree = lines_table.tree;
   name = codes "lines";
-  columns = (lines_table lines_tree).columns;
+  columns = lines_table.columns;
   key = line_key;
   same = same_line;
   key_cells = λ k. Text k.0 ∷ Text k.1 ∷ [];
@@ -63,20 +63,14 @@ order_text = record { rule = is_name; has = λ r h. (and_parts _ _ h).0; reads =
 gtin_text : IsText lines 2 (λ k. k.1)
 gtin_text = record { rule = is_gtin; has = λ r h. (and_parts _ _ (and_parts _ _ h).1).0; reads = λ r. refl }
 
-pub line_mapped : IsMapped line_mapping.columns 4 line_mapping lines
-line_mapped = record { few = refl; cells = λ s. refl; has = λ r. refl; seen = λ r. refl; back = λ s. refl }
-
-add_is : AddIs lines
-unfolding understood everything
-add_is rest = (refl, (refl, refl))
-
 pub lines_laws : IsLawful lines
+unfolding understood everything
 lines_laws = record {
   placed_first = refl;
   placed = λ rest. refl;
   itself = λ k. itself_both _ _ (itself_bytes k.0) (itself_bytes k.1);
   one_key = same_both bytes_eq bytes_eq same_bytes same_bytes;
-  one_row = λ db ready params. one_keyed db ready 7 lines_tree (codes "lines") (lines_table lines_tree).columns (1 ∷ 2 ∷ []) refl refl params;
+  one_row = λ db ready params. one_keyed db ready 7 lines_table.tree (codes "lines") lines_table.columns (1 ∷ 2 ∷ []) refl refl params;
   at_key = key_found lines line_of.columns (order_text, (gtin_text, tt));
   own_key = λ s r. refl;
   looks = λ trees. refl;
@@ -85,7 +79,7 @@ lines_laws = record {
   ruled = refl;
   has_shown = λ params r. refl;
   seen_shown = λ params r. refl;
-  add_is = add_is;
+  add_is = λ rest. (refl, (refl, refl));
   added = λ s. refl;
   casts = λ s. rw (cast_null, cast_number (pos s.ordered), cast_number (pos s.shipped)) refl;
   comes = λ s rows sound. (refl, (sound, refl));

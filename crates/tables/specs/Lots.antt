@@ -1,6 +1,6 @@
 -- The table `lots`.
 use Rattle.std.specs.Prelude.{◌≡◌, ◌∷◌}
-use Rattle.tables.specs.Words.{ℕ, List, [], codes, refl, ap, pos, and_parts, Value, Text, Chosen, rowid, with_rowid, is_gtin, is_lot_text, LotId, Tables, LotRow, ADD_LOT, CHANGE_LOT, LOTS_OF, LOT_OF, ALL_LOTS, flag_number, stored_row, one, none, lot_columns, text_stored, lots_tree, lots_table, lot_mapping, same_lot, lot_key, cast_number, cast_null, same_lots, itself_lot, flag_back, All, Described, IsLawful, AddIs, Change, ChangeIs, IsChange, key_found, Asks, for_all, by_text, by_lot, AreSought, IsText, IsAsked, planned, whole_change, IsMapped, one_keyed}
+use Rattle.tables.specs.Words.{ℕ, List, [], codes, refl, ap, pos, and_parts, Value, Text, Chosen, rowid, with_rowid, is_gtin, is_lot_text, LotId, Tables, LotRow, ADD_LOT, CHANGE_LOT, LOTS_OF, LOT_OF, ALL_LOTS, flag_number, stored_row, one, none, lot_columns, text_stored, lots_table, lot_mapping, same_lot, lot_key, cast_number, cast_null, same_lots, itself_lot, flag_back, All, Described, IsLawful, Change, ChangeIs, IsChange, key_found, Asks, for_all, by_text, by_lot, AreSought, IsText, IsAsked, planned, whole_change, one_keyed}
 use Rattle.sqlite.specs.Listing.{understood}
 use Rattle.sqlite_tied.specs.Compute.{everything}
 
@@ -8,9 +8,9 @@ use Rattle.sqlite_tied.specs.Compute.{everything}
 abbrev pub lots : Described LotRow LotId
 lots = planned lot_mapping (record {
   place = 3;
-  tree = lots_tree;
+  tree = lots_table.tree;
   name = codes "lots";
-  columns = (lots_table lots_tree).columns;
+  columns = lots_table.columns;
   key = lot_key;
   same = same_lot;
   key_cells = λ k. Text k.gtin ∷ Text k.lot ∷ [];
@@ -50,24 +50,18 @@ gtin_text = record { rule = is_gtin; has = λ r h. (and_parts _ _ h).0; reads = 
 lot_text : IsText lots 2 (λ k. k.lot)
 lot_text = record { rule = is_lot_text; has = λ r h. (and_parts _ _ (and_parts _ _ h).1).0; reads = λ r. refl }
 
-add_is : AddIs lots
-unfolding understood everything
-add_is rest = (refl, (refl, refl))
-
 -- what is written reads as the row
 back : (id : Value) (s : LotRow) → stored_row lot_mapping (id ∷ lots.cells s) ≡ s
 back id s = ap (λ x. let r : LotRow = record { lot = record { gtin = s.lot.gtin; lot = s.lot.lot }; expiry = s.expiry; came = s.came; held = x } in r) (flag_back s.held)
 
-pub lots_mapped : IsMapped lot_mapping.columns 5 lot_mapping lots
-lots_mapped = record { few = refl; cells = λ s. refl; has = λ r. refl; seen = λ r. refl; back = λ s. refl }
-
 pub lots_laws : IsLawful lots
+unfolding understood everything
 lots_laws = record {
   placed_first = refl;
   placed = λ rest. refl;
   itself = itself_lot;
   one_key = same_lots;
-  one_row = λ db ready params. one_keyed db ready 3 lots_tree (codes "lots") (lots_table lots_tree).columns (1 ∷ 2 ∷ []) refl refl params;
+  one_row = λ db ready params. one_keyed db ready 3 lots_table.tree (codes "lots") lots_table.columns (1 ∷ 2 ∷ []) refl refl params;
   at_key = key_found lots lot_of.columns (gtin_text, (lot_text, tt));
   own_key = λ s r. refl;
   looks = λ trees. refl;
@@ -76,7 +70,7 @@ lots_laws = record {
   ruled = refl;
   has_shown = λ params r. refl;
   seen_shown = λ params r. refl;
-  add_is = add_is;
+  add_is = λ rest. (refl, (refl, refl));
   added = λ s. refl;
   casts = λ s. rw (cast_null, cast_number s.expiry, cast_number (pos s.came), cast_number (pos (flag_number s.held))) refl;
   comes = λ s rows sound. (refl, (sound, back (rowid (with_rowid Chosen rows (lots.source s))) s));

@@ -1,6 +1,6 @@
 -- The table `orders`.
 use Rattle.std.specs.Prelude.{◌≡◌, ◌∷◌}
-use Rattle.tables.specs.Words.{ℕ, true, List, [], codes, refl, ap, ◌∙◌, pos, and_parts, Value, Text, Row, column, Chosen, rowid, with_rowid, is_name, is_title, Tables, OrderRow, ACTS_MAX, ADD_ORDER, CHANGE_ORDER, ORDERS_OF, OPEN_ORDERS, Open, AreRows, only_if, is_word, is_the_text, is_count, is_order_state, one, text_stored, orders_tree, orders_table, same_order, order_key, is_open_order, order_mapping, same, by_rowid, passes, in_order, cast_number, cast_null, and_true, same_word, equals_text, order_state_back, open_is, same_bytes, itself_bytes, Described, IsLawful, AddIs, Change, ChangeIs, IsChange, Query, QueryIs, IsSought, key_found, Asks, by_text, AreSought, IsText, IsAsked, IsMapped, planned, whole_change, one_keyed, rows_of, found_by_test}
+use Rattle.tables.specs.Words.{ℕ, true, List, [], codes, refl, ap, ◌∙◌, pos, and_parts, Value, Text, Row, column, Chosen, rowid, with_rowid, is_name, is_title, Tables, OrderRow, ACTS_MAX, ADD_ORDER, CHANGE_ORDER, ORDERS_OF, OPEN_ORDERS, Open, AreRows, only_if, is_word, is_the_text, is_count, is_order_state, one, text_stored, orders_table, same_order, order_key, is_open_order, order_mapping, same, by_rowid, passes, in_order, cast_number, cast_null, and_true, same_word, equals_text, order_state_back, open_is, same_bytes, itself_bytes, Described, IsLawful, Change, ChangeIs, IsChange, Query, QueryIs, IsSought, key_found, Asks, by_text, AreSought, IsText, IsAsked, planned, whole_change, one_keyed, rows_of, found_by_test}
 use Rattle.sqlite.specs.Listing.{understood}
 use Rattle.sqlite_tied.specs.Compute.{everything}
 
@@ -8,9 +8,9 @@ use Rattle.sqlite_tied.specs.Compute.{everything}
 abbrev pub orders : Described OrderRow (List ℕ)
 orders = planned order_mapping (record {
   place = 6;
-  tree = orders_tree;
+  tree = orders_table.tree;
   name = codes "orders";
-  columns = (orders_table orders_tree).columns;
+  columns = orders_table.columns;
   key = order_key;
   same = same_order;
   key_cells = λ k. Text k ∷ [];
@@ -51,24 +51,18 @@ AreOpenOrders by t rows = AreRows {K = List ℕ} same_order order_key (λ k. tru
 order_text : IsText orders 1 (λ k. k)
 order_text = record { rule = is_name; has = λ r h. (and_parts _ _ h).0; reads = λ r. refl }
 
-pub order_mapped : IsMapped order_mapping.columns 4 order_mapping orders
-order_mapped = record { few = refl; cells = λ s. refl; has = λ r. refl; seen = λ r. refl; back = λ s. refl }
-
-add_is : AddIs orders
-unfolding understood everything
-add_is rest = (refl, (refl, refl))
-
 -- what is written reads as the row
 back : (id : Value) (s : OrderRow) → orders.reads (id ∷ orders.cells s) ≡ s
 back id s = ap (λ x. let r : OrderRow = record { order = s.order; act = s.act; customer = s.customer; state = x } in r) (order_state_back s.state)
 
 pub orders_laws : IsLawful orders
+unfolding understood everything
 orders_laws = record {
   placed_first = refl;
   placed = λ rest. refl;
   itself = itself_bytes;
   one_key = same_bytes;
-  one_row = λ db ready params. one_keyed db ready 6 orders_tree (codes "orders") (orders_table orders_tree).columns (1 ∷ []) refl refl params;
+  one_row = λ db ready params. one_keyed db ready 6 orders_table.tree (codes "orders") orders_table.columns (1 ∷ []) refl refl params;
   at_key = key_found orders orders_of.columns (order_text, tt);
   own_key = λ s r. refl;
   looks = λ trees. refl;
@@ -77,7 +71,7 @@ orders_laws = record {
   ruled = refl;
   has_shown = λ params r. refl;
   seen_shown = λ params r. refl;
-  add_is = add_is;
+  add_is = λ rest. (refl, (refl, refl));
   added = λ s. refl;
   casts = λ s. rw (cast_null, cast_number (pos s.act)) refl;
   comes = λ s rows sound. (refl, (sound, back (rowid (with_rowid Chosen rows (orders.source s))) s));
@@ -115,6 +109,6 @@ open_orders_laws = record {
   is = open_orders_is;
   at = open_orders_at;
   at_stored = λ by r int. and_true _ ∙ equals_text (column r 4) (codes "OPEN");
-  ordered = λ db ready by rows a. in_order db.trees (open_orders.params by) orders_tree open_orders.tests orders.shown rows (rows_of orders orders_laws db ready).0 a;
+  ordered = λ db ready by rows a. in_order db.trees (open_orders.params by) orders_table.tree open_orders.tests orders.shown rows (rows_of orders orders_laws db ready).0 a;
   finds = λ db ready by xs are. found_by_test orders orders_laws is_open_order db ready xs are;
 }

@@ -1,6 +1,6 @@
 -- The table `recalls`.
 use Rattle.std.specs.Prelude.{◌∷◌}
-use Rattle.tables.specs.Words.{ℕ, List, [], codes, refl, pos, and_parts, Text, is_gtin, is_lot_text, LotId, Tables, RecallRow, ADD_RECALL, RECALLS_OF, one, text_stored, recalls_tree, recalls_table, recall_mapping, same_recall, recall_key, cast_number, cast_null, same_lots, itself_lot, Described, IsLawful, AddIs, key_found, Asks, of_key, by_text, AreSought, IsText, IsAsked, planned, IsMapped, one_keyed}
+use Rattle.tables.specs.Words.{ℕ, List, [], codes, refl, pos, and_parts, Text, is_gtin, is_lot_text, LotId, Tables, RecallRow, ADD_RECALL, RECALLS_OF, one, text_stored, recalls_table, recall_mapping, same_lot, recall_key, cast_number, cast_null, same_lots, itself_lot, Described, IsLawful, key_found, Asks, of_key, by_text, AreSought, IsText, IsAsked, planned, one_keyed}
 use Rattle.sqlite.specs.Listing.{understood}
 use Rattle.sqlite_tied.specs.Compute.{everything}
 
@@ -8,11 +8,11 @@ use Rattle.sqlite_tied.specs.Compute.{everything}
 abbrev pub recalls : Described RecallRow LotId
 recalls = planned recall_mapping (record {
   place = 4;
-  tree = recalls_tree;
+  tree = recalls_table.tree;
   name = codes "recalls";
-  columns = (recalls_table recalls_tree).columns;
+  columns = recalls_table.columns;
   key = recall_key;
-  same = same_recall;
+  same = same_lot;
   key_cells = λ k. Text k.gtin ∷ Text k.lot ∷ [];
   key_places = 1 ∷ 2 ∷ [];
   look = λ t k. t.recall k;
@@ -35,20 +35,14 @@ gtin_text = record { rule = is_gtin; has = λ r h. (and_parts _ _ h).0; reads = 
 lot_text : IsText recalls 2 (λ k. k.lot)
 lot_text = record { rule = is_lot_text; has = λ r h. (and_parts _ _ (and_parts _ _ h).1).0; reads = λ r. refl }
 
-add_is : AddIs recalls
-unfolding understood everything
-add_is rest = (refl, (refl, refl))
-
-pub recalls_mapped : IsMapped recall_mapping.columns 3 recall_mapping recalls
-recalls_mapped = record { few = refl; cells = λ s. refl; has = λ r. refl; seen = λ r. refl; back = λ s. refl }
-
 pub recalls_laws : IsLawful recalls
+unfolding understood everything
 recalls_laws = record {
   placed_first = refl;
   placed = λ rest. refl;
   itself = itself_lot;
   one_key = same_lots;
-  one_row = λ db ready params. one_keyed db ready 4 recalls_tree (codes "recalls") (recalls_table recalls_tree).columns (1 ∷ 2 ∷ []) refl refl params;
+  one_row = λ db ready params. one_keyed db ready 4 recalls_table.tree (codes "recalls") recalls_table.columns (1 ∷ 2 ∷ []) refl refl params;
   at_key = key_found recalls (of_key 1 (λ k. k.gtin) ∷ of_key 2 (λ k. k.lot) ∷ []) (gtin_text, (lot_text, tt));
   own_key = λ s r. refl;
   looks = λ trees. refl;
@@ -57,7 +51,7 @@ recalls_laws = record {
   ruled = refl;
   has_shown = λ params r. refl;
   seen_shown = λ params r. refl;
-  add_is = add_is;
+  add_is = λ rest. (refl, (refl, refl));
   added = λ s. refl;
   casts = λ s. rw (cast_null, cast_number (pos s.act)) refl;
   comes = λ s rows sound. (refl, (sound, refl));

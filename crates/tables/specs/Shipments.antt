@@ -1,6 +1,6 @@
 -- The table `shipments`.
-use Rattle.std.specs.Prelude.{◌≡◌, ◌∷◌}
-use Rattle.tables.specs.Words.{ℕ, true, nat_le, nat_eq, filter, List, [], codes, refl, ◌∙◌, pos, and_parts, Null, Int, Row, column, lit, col, Tables, ShipmentRow, ACTS_MAX, ADD_SHIPMENT, SHIPMENTS_OF, AreRows, is_the_number, shipments_tree, shipments_table, is_stored_shipment, stored_shipment, same_shipment, shipment_key, shipment_mapping, shipment_rest, same, passes, scanned, only_shown, cast_number, cast_null, and_true, same_count, equals_number, same_number, itself_number, one_by_rowid, few, Described, IsLawful, AddIs, Query, QueryIs, IsSought, by_id, IsMapped, rows_of, found_by_key}
+use Rattle.std.specs.Prelude.{◌∷◌}
+use Rattle.tables.specs.Words.{ℕ, nat_le, nat_eq, filter, List, [], codes, refl, ◌∙◌, pos, and_parts, Null, Int, column, lit, col, Tables, ShipmentRow, ACTS_MAX, ADD_SHIPMENT, SHIPMENTS_OF, AreRows, is_the_number, shipments_table, is_stored_shipment, stored_shipment, same_shipment, shipment_key, shipment_mapping, shipment_rest, same, passes, scanned, only_shown, cast_number, cast_null, and_true, same_count, equals_number, same_number, itself_number, one_by_rowid, few, Described, IsLawful, Query, QueryIs, IsSought, by_id, rows_of, found_by_key}
 use Rattle.sqlite.specs.Listing.{understood}
 use Rattle.sqlite_tied.specs.Compute.{everything}
 
@@ -8,7 +8,7 @@ use Rattle.sqlite_tied.specs.Compute.{everything}
 abbrev pub shipments : Described ShipmentRow ℕ
 shipments = record {
   place = 10;
-  layout = by_id shipments_tree (codes "shipments") (shipments_table shipments_tree).columns;
+  layout = by_id shipments_table.tree (codes "shipments") shipments_table.columns;
   is = is_stored_shipment;
   reads = stored_shipment;
   shown = col 1 0 ∷ col 1 2 ∷ col 1 3 ∷ col 1 4 ∷ [];
@@ -18,6 +18,7 @@ shipments = record {
   same = same_shipment;
   cells = λ s. shipment_mapping.columns.cells (shipment_mapping.parts s);
   key_cells = λ number. Int (pos number) ∷ [];
+  fits = λ s. shipment_mapping.columns.fits (shipment_mapping.parts s);
   look = λ t number. t.shipment number;
   set = λ f t. record t { shipment = f };
   tests = same 0 0 ∷ [];
@@ -43,24 +44,15 @@ AreShipmentsOf number t rows = AreRows {K = ℕ} same_shipment shipment_key (λ 
 
 -- ---- what holds of them
 
-pub shipment_mapped : IsMapped shipment_mapping.columns 4 shipment_mapping shipments
-shipment_mapped = record { few = refl; cells = λ s. refl; has = λ r. refl; seen = λ r. refl; back = λ s. refl }
-
-add_is : AddIs shipments
-unfolding understood everything
-add_is rest = (refl, (refl, refl))
-
-at_key : (k : ℕ) (r : Row) → shipments.is r ≡ true → passes (shipments.key_cells k) shipments.tests r ≡ same_shipment k (shipment_key (shipments.reads r))
-at_key k r h = and_true _ ∙ same_count ACTS_MAX (column r 0) (Int (pos k)) k (and_parts _ _ h).0 refl
-
 pub shipments_laws : IsLawful shipments
+unfolding understood everything
 shipments_laws = record {
   placed_first = refl;
   placed = λ rest. refl;
   itself = itself_number;
   one_key = same_number;
-  one_row = λ db ready params. one_by_rowid (db.trees shipments_tree) params;
-  at_key = at_key;
+  one_row = λ db ready params. one_by_rowid (db.trees shipments_table.tree) params;
+  at_key = λ k r h. and_true _ ∙ same_count ACTS_MAX (column r 0) (Int (pos k)) k (and_parts _ _ h).0 refl;
   own_key = λ s r. refl;
   looks = λ trees. refl;
   sets = λ trees rows. refl;
@@ -68,7 +60,7 @@ shipments_laws = record {
   ruled = refl;
   has_shown = λ params r. refl;
   seen_shown = λ params r. refl;
-  add_is = add_is;
+  add_is = λ rest. (refl, (refl, refl));
   added = λ s. refl;
   casts = λ s. rw (cast_null, cast_number (pos s.number), cast_number (pos s.act), cast_number s.day) refl;
   comes = λ s rows good. (refl, (good, refl));
@@ -81,12 +73,12 @@ of_is rest = (refl, refl, (refl, refl))
 pub shipments_of_laws : IsSought shipments shipments_of AreShipmentsOf
 shipments_of_laws = record {
   is = of_is;
-  at = λ number r h. at_key number r h;
+  at = λ number r h. shipments_laws.at_key number r h;
   at_stored = λ number r int. and_true _ ∙ equals_number (column r 0) number int;
   ordered = λ db ready number rows a.
       let params = shipments_of.params number in
-      let all = db.trees shipments_tree in
+      let all = db.trees shipments_table.tree in
       let p = passes params shipments_of.tests in
-      only_shown params shipments.shown (filter p all) (few p all (rows_of shipments shipments_laws db ready).0 (one_by_rowid all params)) rows (scanned db.trees params shipments_tree shipments_of.tests shipments.shown [] rows a);
+      only_shown params shipments.shown (filter p all) (few p all (rows_of shipments shipments_laws db ready).0 (one_by_rowid all params)) rows (scanned db.trees params shipments_table.tree shipments_of.tests shipments.shown [] rows a);
   finds = λ db ready number xs are. found_by_key shipments shipments_laws (λ k. nat_eq number k) db ready xs are;
 }

@@ -1,6 +1,6 @@
 -- The table `staged`.
 use Rattle.std.specs.Prelude.{if◌then◌else◌, ◌∷◌}
-use Rattle.tables.specs.Words.{ℕ, bytes_eq, List, [], None, codes, refl, pos, and_parts, Text, is_gtin, is_lot_text, is_name, Tables, StagedRow, ADD_STAGED, CHANGE_STAGED, STAGED_OF_ITEM, STAGED_OF_ORDER, STAGED_OF, ALL_STAGED, DROP_STAGED, DROP_STAGE, one, pair, none, lot_columns, text_stored, staged_tree, staged_table, same_lot_id, StagedKey, same_staged, staged_key, staged_mapping, cast_number, cast_null, same_lots, itself_lot, same_both, same_bytes, itself_both, itself_bytes, All, Described, IsLawful, AddIs, Change, ChangeIs, IsChange, DropIs, key_found, Asks, of_key, for_all, by_text, by_key, tests_of, AreSought, IsText, IsAsked, IsMapped, planned, whole_change, one_keyed}
+use Rattle.tables.specs.Words.{ℕ, bytes_eq, List, [], None, codes, refl, pos, and_parts, Text, is_gtin, is_lot_text, is_name, Tables, StagedRow, ADD_STAGED, CHANGE_STAGED, STAGED_OF_ITEM, STAGED_OF_ORDER, STAGED_OF, ALL_STAGED, DROP_STAGED, DROP_STAGE, one, pair, none, lot_columns, text_stored, staged_table, same_lot_id, StagedKey, same_staged, staged_key, staged_mapping, cast_number, cast_null, same_lots, itself_lot, same_both, same_bytes, itself_both, itself_bytes, All, Described, IsLawful, Change, ChangeIs, IsChange, DropIs, key_found, Asks, of_key, for_all, by_text, by_key, tests_of, AreSought, IsText, IsAsked, planned, whole_change, one_keyed}
 use Rattle.sqlite.specs.Listing.{understood}
 use Rattle.sqlite_tied.specs.Compute.{everything}
 use Rattle.tables.specs.Dropping.{DropsBy}
@@ -9,9 +9,9 @@ use Rattle.tables.specs.Dropping.{DropsBy}
 abbrev pub staged : Described StagedRow StagedKey
 staged = planned staged_mapping (record {
   place = 8;
-  tree = staged_tree;
+  tree = staged_table.tree;
   name = codes "staged";
-  columns = (staged_table staged_tree).columns;
+  columns = staged_table.columns;
   key = staged_key;
   same = same_staged;
   key_cells = λ k. Text k.0 ∷ Text k.1.gtin ∷ Text k.1.lot ∷ [];
@@ -65,20 +65,14 @@ gtin_text = record { rule = is_gtin; has = λ r h. (and_parts _ _ (and_parts _ _
 lot_text : IsText staged 3 (λ k. k.1.lot)
 lot_text = record { rule = is_lot_text; has = λ r h. (and_parts _ _ (and_parts _ _ (and_parts _ _ h).1).1).0; reads = λ r. refl }
 
-pub staged_mapped : IsMapped staged_mapping.columns 4 staged_mapping staged
-staged_mapped = record { few = refl; cells = λ s. refl; has = λ r. refl; seen = λ r. refl; back = λ s. refl }
-
-add_is : AddIs staged
-unfolding understood everything
-add_is rest = (refl, (refl, refl))
-
 pub staged_laws : IsLawful staged
+unfolding understood everything
 staged_laws = record {
   placed_first = refl;
   placed = λ rest. refl;
   itself = λ k. itself_both _ _ (itself_bytes k.0) (itself_lot k.1);
   one_key = same_both bytes_eq same_lot_id same_bytes same_lots;
-  one_row = λ db ready params. one_keyed db ready 8 staged_tree (codes "staged") (staged_table staged_tree).columns (1 ∷ 2 ∷ 3 ∷ []) refl refl params;
+  one_row = λ db ready params. one_keyed db ready 8 staged_table.tree (codes "staged") staged_table.columns (1 ∷ 2 ∷ 3 ∷ []) refl refl params;
   at_key = key_found staged staged_of.columns (order_text, (gtin_text, (lot_text, tt)));
   own_key = λ s r. refl;
   looks = λ trees. refl;
@@ -87,7 +81,7 @@ staged_laws = record {
   ruled = refl;
   has_shown = λ params r. refl;
   seen_shown = λ params r. refl;
-  add_is = add_is;
+  add_is = λ rest. (refl, (refl, refl));
   added = λ s. refl;
   casts = λ s. rw (cast_null, cast_number (pos s.qty)) refl;
   comes = λ s rows sound. (refl, (sound, refl));

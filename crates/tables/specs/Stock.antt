@@ -1,6 +1,6 @@
 -- The table `stock`.
-use Rattle.std.specs.Prelude.{◌≡◌, ◌∷◌}
-use Rattle.tables.specs.Words.{ℕ, true, bytes_eq, List, [], codes, refl, ◌∙◌, pos, and_parts, Text, Row, column, bytes, is_gtin, is_lot_text, is_name, LotId, Tables, StockRow, ADD_STOCK, CHANGE_STOCK, STOCK_OF, STOCK_OF_LOT, STOCK_IN, DROP_STOCK, one, lot_columns, text_stored, stock_tree, stock_table, same_lot_id, StockKey, stock_mapping, same_stock, stock_key, passes, cast_number, cast_null, and_assoc, same_lots, itself_lot, same_both, same_bytes, itself_both, itself_bytes, Described, IsLawful, AddIs, Change, ChangeIs, IsChange, DropIs, key_found, Asks, of_key, by_text, by_lot, AreSought, IsText, IsAsked, planned, whole_change, IsMapped, one_keyed}
+use Rattle.std.specs.Prelude.{◌∷◌}
+use Rattle.tables.specs.Words.{ℕ, bytes_eq, List, [], codes, refl, ◌∙◌, pos, and_parts, Text, column, bytes, is_gtin, is_lot_text, is_name, LotId, Tables, StockRow, ADD_STOCK, CHANGE_STOCK, STOCK_OF, STOCK_OF_LOT, STOCK_IN, DROP_STOCK, one, lot_columns, text_stored, stock_table, same_lot_id, StockKey, stock_mapping, same_stock, stock_key, cast_number, cast_null, and_assoc, same_lots, itself_lot, same_both, same_bytes, itself_both, itself_bytes, Described, IsLawful, Change, ChangeIs, IsChange, DropIs, key_found, Asks, of_key, by_text, by_lot, AreSought, IsText, IsAsked, planned, whole_change, one_keyed}
 use Rattle.sqlite.specs.Listing.{understood}
 use Rattle.sqlite_tied.specs.Compute.{everything}
 
@@ -8,9 +8,9 @@ use Rattle.sqlite_tied.specs.Compute.{everything}
 abbrev pub stock : Described StockRow StockKey
 stock = planned stock_mapping (record {
   place = 5;
-  tree = stock_tree;
+  tree = stock_table.tree;
   name = codes "stock";
-  columns = (stock_table stock_tree).columns;
+  columns = stock_table.columns;
   key = stock_key;
   same = same_stock;
   key_cells = λ k. Text k.0.gtin ∷ Text k.0.lot ∷ Text k.1 ∷ [];
@@ -56,26 +56,17 @@ lot_text = record { rule = is_lot_text; has = λ r h. (and_parts _ _ (and_parts 
 bin_text : IsText stock 3 (λ k. k.1)
 bin_text = record { rule = is_name; has = λ r h. (and_parts _ _ (and_parts _ _ (and_parts _ _ h).1).1).0; reads = λ r. refl }
 
-add_is : AddIs stock
-unfolding understood everything
-add_is rest = (refl, (refl, refl))
-
-at_key : (k : StockKey) (r : Row) → stock.is r ≡ true → passes (stock.key_cells k) stock.tests r ≡ same_stock k (stock_key (stock.reads r))
-at_key k r h =
-    key_found stock (of_key 1 (λ k. k.0.gtin) ∷ of_key 2 (λ k. k.0.lot) ∷ of_key 3 (λ k. k.1) ∷ []) (gtin_text, (lot_text, (bin_text, tt))) k r h
-    ∙ and_assoc (bytes_eq k.0.gtin (bytes (column r 1))) (bytes_eq k.0.lot (bytes (column r 2))) (bytes_eq k.1 (bytes (column r 3)))
-
-pub stock_mapped : IsMapped stock_mapping.columns 4 stock_mapping stock
-stock_mapped = record { few = refl; cells = λ s. refl; has = λ r. refl; seen = λ r. refl; back = λ s. refl }
-
 pub stock_laws : IsLawful stock
+unfolding understood everything
 stock_laws = record {
   placed_first = refl;
   placed = λ rest. refl;
   itself = λ k. itself_both _ _ (itself_lot k.0) (itself_bytes k.1);
   one_key = same_both same_lot_id bytes_eq same_lots same_bytes;
-  one_row = λ db ready params. one_keyed db ready 5 stock_tree (codes "stock") (stock_table stock_tree).columns (1 ∷ 2 ∷ 3 ∷ []) refl refl params;
-  at_key = at_key;
+  one_row = λ db ready params. one_keyed db ready 5 stock_table.tree (codes "stock") stock_table.columns (1 ∷ 2 ∷ 3 ∷ []) refl refl params;
+  at_key = λ k r h.
+      key_found stock (of_key 1 (λ k. k.0.gtin) ∷ of_key 2 (λ k. k.0.lot) ∷ of_key 3 (λ k. k.1) ∷ []) (gtin_text, (lot_text, (bin_text, tt))) k r h
+      ∙ and_assoc (bytes_eq k.0.gtin (bytes (column r 1))) (bytes_eq k.0.lot (bytes (column r 2))) (bytes_eq k.1 (bytes (column r 3)));
   own_key = λ s r. refl;
   looks = λ trees. refl;
   sets = λ trees rows. refl;
@@ -83,7 +74,7 @@ stock_laws = record {
   ruled = refl;
   has_shown = λ params r. refl;
   seen_shown = λ params r. refl;
-  add_is = add_is;
+  add_is = λ rest. (refl, (refl, refl));
   added = λ s. refl;
   casts = λ s. rw (cast_null, cast_number (pos s.qty)) refl;
   comes = λ s rows sound. (refl, (sound, refl));

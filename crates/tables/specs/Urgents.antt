@@ -1,6 +1,6 @@
 -- The table `urgents`.
 use Rattle.std.specs.Prelude.{◌∷◌}
-use Rattle.tables.specs.Words.{ℕ, List, [], codes, refl, pos, and_parts, Text, is_name, Tables, UrgentRow, ADD_URGENT, URGENTS_OF, ALL_URGENTS, one, none, text_stored, urgents_tree, urgents_table, same_urgent, urgent_key, urgent_mapping, cast_number, cast_null, same_bytes, itself_bytes, All, Described, IsLawful, AddIs, key_found, Asks, for_all, by_text, AreSought, IsText, IsAsked, IsMapped, planned, one_keyed}
+use Rattle.tables.specs.Words.{ℕ, List, [], codes, refl, pos, and_parts, Text, is_name, Tables, UrgentRow, ADD_URGENT, URGENTS_OF, ALL_URGENTS, one, none, text_stored, urgents_table, same_order, urgent_key, urgent_mapping, cast_number, cast_null, same_bytes, itself_bytes, All, Described, IsLawful, key_found, Asks, for_all, by_text, AreSought, IsText, IsAsked, planned, one_keyed}
 use Rattle.sqlite.specs.Listing.{understood}
 use Rattle.sqlite_tied.specs.Compute.{everything}
 
@@ -8,11 +8,11 @@ use Rattle.sqlite_tied.specs.Compute.{everything}
 abbrev pub urgents : Described UrgentRow (List ℕ)
 urgents = planned urgent_mapping (record {
   place = 15;
-  tree = urgents_tree;
+  tree = urgents_table.tree;
   name = codes "urgents";
-  columns = (urgents_table urgents_tree).columns;
+  columns = urgents_table.columns;
   key = urgent_key;
-  same = same_urgent;
+  same = same_order;
   key_cells = λ order. Text order ∷ [];
   key_places = 1 ∷ [];
   look = λ t order. t.urgent order;
@@ -36,20 +36,14 @@ all_urgents = for_all ALL_URGENTS.now
 order_text : IsText urgents 1 (λ k. k)
 order_text = record { rule = is_name; has = λ r h. (and_parts _ _ h).0; reads = λ r. refl }
 
-pub urgent_mapped : IsMapped urgent_mapping.columns 2 urgent_mapping urgents
-urgent_mapped = record { few = refl; cells = λ s. refl; has = λ r. refl; seen = λ r. refl; back = λ s. refl }
-
-add_is : AddIs urgents
-unfolding understood everything
-add_is rest = (refl, (refl, refl))
-
 pub urgents_laws : IsLawful urgents
+unfolding understood everything
 urgents_laws = record {
   placed_first = refl;
   placed = λ rest. refl;
   itself = itself_bytes;
   one_key = same_bytes;
-  one_row = λ db ready params. one_keyed db ready 15 urgents_tree (codes "urgents") (urgents_table urgents_tree).columns (1 ∷ []) refl refl params;
+  one_row = λ db ready params. one_keyed db ready 15 urgents_table.tree (codes "urgents") urgents_table.columns (1 ∷ []) refl refl params;
   at_key = key_found urgents urgents_of.columns (order_text, tt);
   own_key = λ s r. refl;
   looks = λ trees. refl;
@@ -58,7 +52,7 @@ urgents_laws = record {
   ruled = refl;
   has_shown = λ params r. refl;
   seen_shown = λ params r. refl;
-  add_is = add_is;
+  add_is = λ rest. (refl, (refl, refl));
   added = λ s. refl;
   casts = λ s. rw (cast_null, cast_number (pos s.act)) refl;
   comes = λ s rows sound. (refl, (sound, refl));

@@ -20,8 +20,9 @@ use values::Name;
 pub struct Bins;
 
 impl Mapped for Bins {
+    ghost use Rattle.std.specs.Prelude.{refl};
     ghost use Rattle.table_words.specs.Typed.{bin_mapping};
-    ghost use Rattle.tables.specs.Bins.{bins, bins_mapped, bins_laws};
+    ghost use Rattle.tables.specs.Bins.{bins, bins_laws};
 
     type Row = BinRow;
 
@@ -33,7 +34,7 @@ impl Mapped for Bins {
 
     ghost described = { bins };
 
-    ghost mapped = { bins_mapped };
+    ghost mapped = { record { few = refl; cells = λ s. refl; has = λ r. refl; seen = λ r. refl; back = λ s. refl } };
 
     ghost mapped_laws = { bins_laws };
 

@@ -15,8 +15,9 @@ use values::{Gtin, LeastDays};
 pub struct Least;
 
 impl Mapped for Least {
+    ghost use Rattle.std.specs.Prelude.{refl};
     ghost use Rattle.table_words.specs.Typed.{least_mapping};
-    ghost use Rattle.tables.specs.Least.{least, least_mapped, least_laws};
+    ghost use Rattle.tables.specs.Least.{least, least_laws};
 
     type Row = LeastRow;
 
@@ -28,7 +29,7 @@ impl Mapped for Least {
 
     ghost described = { least };
 
-    ghost mapped = { least_mapped };
+    ghost mapped = { record { few = refl; cells = λ s. refl; has = λ r. refl; seen = λ r. refl; back = λ s. refl } };
 
     ghost mapped_laws = { least_laws };
 

@@ -20,8 +20,9 @@ use values::{Gtin, Name};
 pub struct Lines;
 
 impl Mapped for Lines {
+    ghost use Rattle.std.specs.Prelude.{refl};
     ghost use Rattle.table_words.specs.Typed.{line_mapping};
-    ghost use Rattle.tables.specs.Lines.{lines, line_mapped, lines_laws};
+    ghost use Rattle.tables.specs.Lines.{lines, lines_laws};
 
     type Row = LineRow;
 
@@ -33,7 +34,7 @@ impl Mapped for Lines {
 
     ghost described = { lines };
 
-    ghost mapped = { line_mapped };
+    ghost mapped = { record { few = refl; cells = λ s. refl; has = λ r. refl; seen = λ r. refl; back = λ s. refl } };
 
     ghost mapped_laws = { lines_laws };
 

@@ -13,8 +13,9 @@ use values::{Gtin, Lot, LotId};
 pub struct Lots;
 
 impl Mapped for Lots {
+    ghost use Rattle.std.specs.Prelude.{refl};
     ghost use Rattle.table_words.specs.Typed.{lot_mapping};
-    ghost use Rattle.tables.specs.Lots.{lots, lots_mapped, lots_laws};
+    ghost use Rattle.tables.specs.Lots.{lots, lots_laws};
 
     type Row = LotRow;
 
@@ -26,7 +27,7 @@ impl Mapped for Lots {
 
     ghost described = { lots };
 
-    ghost mapped = { lots_mapped };
+    ghost mapped = { record { few = refl; cells = λ s. refl; has = λ r. refl; seen = λ r. refl; back = λ s. refl } };
 
     ghost mapped_laws = { lots_laws };
 

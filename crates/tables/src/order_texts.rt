@@ -42,8 +42,7 @@ pub(crate) const RESERVED_OF_ITEM: &str =
 pub(crate) const RESERVED_OF_ORDER: &str =
     "SELECT ord, gtin, lot, qty FROM reserved WHERE ord = ?1 ORDER BY rowid";
 
-pub(crate) const RESERVED_OF: &str =
-    "SELECT ord, gtin, lot, qty FROM reserved WHERE ord = ?1 AND gtin = ?2 AND lot = ?3 ORDER BY rowid";
+pub(crate) const ALL_RESERVED: &str = "SELECT ord, gtin, lot, qty FROM reserved ORDER BY rowid";
 
 pub(crate) const DROP_STAGED: &str = "DELETE FROM staged WHERE ord = ?1 AND gtin = ?2 AND lot = ?3";
 
@@ -73,7 +72,7 @@ pub(crate) const URGENTS_OF: &str = "SELECT ord, act FROM urgents WHERE ord = ?1
 pub(crate) const ALL_URGENTS: &str = "SELECT ord, act FROM urgents ORDER BY rowid";
 
 /// All of them. A connection keeps the plans of its last 64 texts, so the tables together have at most 60.
-pub const TEXTS: [&str; 26] = [
+pub const TEXTS: [&str; 25] = [
     CHANGE_LINE,
     FILL_LINES,
     ADD_LINE,
@@ -88,7 +87,7 @@ pub const TEXTS: [&str; 26] = [
     ADD_RESERVED,
     RESERVED_OF_ITEM,
     RESERVED_OF_ORDER,
-    RESERVED_OF,
+    ALL_RESERVED,
     DROP_STAGED,
     DROP_STAGE,
     CHANGE_STAGED,
@@ -99,5 +98,4 @@ pub const TEXTS: [&str; 26] = [
     ALL_STAGED,
     ADD_URGENT,
     URGENTS_OF,
-    ALL_URGENTS,
 ];

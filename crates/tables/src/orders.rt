@@ -16,8 +16,9 @@ use values::{Name, Title};
 pub struct Orders;
 
 impl Mapped for Orders {
+    ghost use Rattle.std.specs.Prelude.{refl};
     ghost use Rattle.table_words.specs.Typed.{order_mapping};
-    ghost use Rattle.tables.specs.Orders.{orders, order_mapped, orders_laws};
+    ghost use Rattle.tables.specs.Orders.{orders, orders_laws};
 
     type Row = OrderRow;
 
@@ -29,7 +30,7 @@ impl Mapped for Orders {
 
     ghost described = { orders };
 
-    ghost mapped = { order_mapped };
+    ghost mapped = { record { few = refl; cells = λ s. refl; has = λ r. refl; seen = λ r. refl; back = λ s. refl } };
 
     ghost mapped_laws = { orders_laws };
 

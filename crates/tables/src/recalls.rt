@@ -12,8 +12,9 @@ use values::{Gtin, Lot, LotId};
 pub struct Recalls;
 
 impl Mapped for Recalls {
+    ghost use Rattle.std.specs.Prelude.{refl};
     ghost use Rattle.table_words.specs.Typed.{recall_mapping};
-    ghost use Rattle.tables.specs.Recalls.{recalls, recalls_mapped, recalls_laws};
+    ghost use Rattle.tables.specs.Recalls.{recalls, recalls_laws};
 
     type Row = RecallRow;
 
@@ -25,7 +26,7 @@ impl Mapped for Recalls {
 
     ghost described = { recalls };
 
-    ghost mapped = { recalls_mapped };
+    ghost mapped = { record { few = refl; cells = λ s. refl; has = λ r. refl; seen = λ r. refl; back = λ s. refl } };
 
     ghost mapped_laws = { recalls_laws };
 

@@ -1,11 +1,11 @@
 //! The table `reserved`.
 
 use crate::order_texts::{
-    ADD_RESERVED, CHANGE_RESERVED, DROP_RESERVED, RESERVED_OF, RESERVED_OF_ITEM, RESERVED_OF_ORDER,
+    ADD_RESERVED, ALL_RESERVED, CHANGE_RESERVED, DROP_RESERVED, RESERVED_OF_ITEM, RESERVED_OF_ORDER,
 };
 use commands::ReservedRow;
 use keyed_rows::mapped::Mapped;
-use keyed_rows::reading::SoughtBy;
+use keyed_rows::reading::{All, SoughtBy};
 use keyed_rows::table::{Changing, Losing};
 use table_words::column::{Count, QTY};
 use values::{Gtin, Lot, LotId, Name};
@@ -14,8 +14,9 @@ use values::{Gtin, Lot, LotId, Name};
 pub struct Reserved;
 
 impl Mapped for Reserved {
+    ghost use Rattle.std.specs.Prelude.{refl};
     ghost use Rattle.table_words.specs.Typed.{reserved_mapping};
-    ghost use Rattle.tables.specs.Reserved.{reserved, reserved_mapped, reserved_laws};
+    ghost use Rattle.tables.specs.Reserved.{reserved, reserved_laws};
 
     type Row = ReservedRow;
 
@@ -27,7 +28,7 @@ impl Mapped for Reserved {
 
     ghost described = { reserved };
 
-    ghost mapped = { reserved_mapped };
+    ghost mapped = { record { few = refl; cells = λ s. refl; has = λ r. refl; seen = λ r. refl; back = λ s. refl } };
 
     ghost mapped_laws = { reserved_laws };
 
@@ -110,14 +111,14 @@ impl SoughtBy<Name> for Reserved {
     }
 }
 
-impl SoughtBy<(Name, LotId)> for Reserved {
-    ghost use Rattle.tables.specs.Reserved.{reserved_of, reserved_of_laws};
+impl SoughtBy<All> for Reserved {
+    ghost use Rattle.tables.specs.Reserved.{all_reserved, all_reserved_laws};
 
-    ghost asks = { reserved_of };
+    ghost asks = { all_reserved };
 
-    ghost asked = { reserved_of_laws };
+    ghost asked = { all_reserved_laws };
 
     fn asking_text() -> &'static str {
-        RESERVED_OF
+        ALL_RESERVED
     }
 }

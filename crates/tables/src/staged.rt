@@ -23,8 +23,9 @@ use values::{Gtin, Lot, LotId, Name};
 pub struct Staged;
 
 impl Mapped for Staged {
+    ghost use Rattle.std.specs.Prelude.{refl};
     ghost use Rattle.table_words.specs.Typed.{staged_mapping};
-    ghost use Rattle.tables.specs.Staged.{staged, staged_mapped, staged_laws};
+    ghost use Rattle.tables.specs.Staged.{staged, staged_laws};
 
     type Row = StagedRow;
 
@@ -36,7 +37,7 @@ impl Mapped for Staged {
 
     ghost described = { staged };
 
-    ghost mapped = { staged_mapped };
+    ghost mapped = { record { few = refl; cells = λ s. refl; has = λ r. refl; seen = λ r. refl; back = λ s. refl } };
 
     ghost mapped_laws = { staged_laws };
 

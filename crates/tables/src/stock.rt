@@ -13,8 +13,9 @@ use values::{Gtin, Lot, LotId, Name};
 pub struct Stock;
 
 impl Mapped for Stock {
+    ghost use Rattle.std.specs.Prelude.{refl};
     ghost use Rattle.table_words.specs.Typed.{stock_mapping};
-    ghost use Rattle.tables.specs.Stock.{stock, stock_mapped, stock_laws};
+    ghost use Rattle.tables.specs.Stock.{stock, stock_laws};
 
     type Row = StockRow;
 
@@ -26,7 +27,7 @@ impl Mapped for Stock {
 
     ghost described = { stock };
 
-    ghost mapped = { stock_mapped };
+    ghost mapped = { record { few = refl; cells = λ s. refl; has = λ r. refl; seen = λ r. refl; back = λ s. refl } };
 
     ghost mapped_laws = { stock_laws };
 

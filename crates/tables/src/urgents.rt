@@ -12,8 +12,9 @@ use values::Name;
 pub struct Urgents;
 
 impl Mapped for Urgents {
+    ghost use Rattle.std.specs.Prelude.{refl};
     ghost use Rattle.table_words.specs.Typed.{urgent_mapping};
-    ghost use Rattle.tables.specs.Urgents.{urgents, urgent_mapped, urgents_laws};
+    ghost use Rattle.tables.specs.Urgents.{urgents, urgents_laws};
 
     type Row = UrgentRow;
 
@@ -25,7 +26,7 @@ impl Mapped for Urgents {
 
     ghost described = { urgents };
 
-    ghost mapped = { urgent_mapped };
+    ghost mapped = { record { few = refl; cells = λ s. refl; has = λ r. refl; seen = λ r. refl; back = λ s. refl } };
 
     ghost mapped_laws = { urgents_laws };
 

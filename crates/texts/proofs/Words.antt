@@ -1,12 +1,11 @@
 -- What the proofs of this crate say of what it stands on: each word from where it is defined.
 pub use Rattle.std.specs.Fmt.{signed_decimal}
-pub use Rattle.std.specs.Io.KnownBytes.{Appends, Keeps}
+pub use Rattle.std.specs.Io.KnownBytes.{Appends}
 pub use Rattle.std.specs.List.{slice_split, join_with_byte, list_all, onto_first}
 pub use Rattle.std.specs.Prelude.{ℤ, pos, negsuc, ◌==◌, codes, decimal, option_map, option_and_then, IsErr, neg_ℤ, nat_le, FitsSigned}
 pub use Rattle.std.specs.Str.{bytes_eq}
 pub use Rattle.std.proofs.Common.{◌≡◌, ℕ, true, List, [], ◌∷◌, append_assoc, refl, ap, sym, ◌∙◌, arith, Some, None, IsTrue, ◌++◌, take, drop, length, ◌-◌, take-append-drop, subst, append-nil, Option, Result, Ok, Err, ◌+◌, flat_map, zero, suc, ◌<◌, ◌≤◌, get_or, map, Bor, ◌*◌, ◌/◌, ◌%◌, ◌^◌, Bool, false, lit<, rules, w64, tests}
-pub use Rattle.std.proofs.KnownBytes.{Appends-trans, Appends-nil, Appends-kept}
-pub use Rattle.std.proofs.Math.Nat.{pow-le-pow_right}
+pub use Rattle.std.proofs.KnownBytes.{Appends-trans, Appends-nil}
 pub use Rattle.std.proofs.lemmas.Bool.{cond-true, cond-false, le-leb}
 pub use Rattle.std.proofs.lemmas.Bool.Decides.{nat_tests}
 pub use Rattle.std.proofs.lemmas.Fmt.{decimal_by_steps, length-decimal-le}
@@ -18,7 +17,7 @@ pub use Rattle.std.proofs.lemmas.List.Splits.{slice_split-cons_yes, slice_split-
 pub use Rattle.std.proofs.lemmas.Option.{same_Some}
 pub use Rattle.std.proofs.lemmas.Result.{IfOk-weaker}
 pub use Rattle.std.proofs.lemmas.Slice.Eq.{bytes_eq-Decides}
-pub use Rattle.values.specs.Values.{checked, is_gtin, is_lot_text, is_name, is_title, is_qty, is_counted, is_delta, is_line_no, is_digit, is_least_days, first_is, is_between, QTY_MAX, LINE_MAX, LEAST_DAYS_MAX}
+pub use Rattle.values.specs.Values.{checked, is_gtin, is_lot_text, is_name, is_title, is_qty, is_counted, is_delta, is_line_no, is_digit, is_least_days, first_is, is_between, QTY_MAX, LINE_MAX, LEAST_DAYS_MAX, number_from}
 pub use Rattle.values.specs.declared.lot.LotId.{LotId}
 pub use Rattle.label.specs.Days.{is_day, is_business_day, day_text}
 unfoldable pub use Rattle.label.specs.Days.{date_of, date_after, date_in_year}
@@ -59,7 +58,7 @@ pub use Rattle.texts.specs.Card.{card_text, card_end, card_line}
 pub use Rattle.texts.specs.Lines.{head_line, lot_line, line}
 pub use Rattle.texts.specs.Notice.{notice_text, bin_line, shipment_line, notice_start, notice_end}
 pub use Rattle.texts.specs.PickList.{pick_list_text, pick_list_start, item_lines, from_line, item_line, take_lines, take_line}
-pub use Rattle.texts.specs.Reading.{Fields, lot_read, order_read, picking_read, own_key, business_day_read, field_at, line_read, line_at, lines_read, number_from, number_read, qty_read, counted_read, least_days_read, line_no_read, delta_read}
+pub use Rattle.texts.specs.Reading.{Fields, lot_read, order_read, picking_read, own_key, business_day_read, field_at, line_read, line_at, lines_read, number_read, qty_read, counted_read, least_days_read, line_no_read, delta_read}
 unfoldable pub use Rattle.texts.specs.Reading.{command_read, key_read}
 pub use Rattle.texts.specs.Shortages.{shortages_text, short_line}
 pub use Rattle.texts.specs.Sinks.{AddsCardLine}

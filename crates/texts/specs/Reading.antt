@@ -1,8 +1,8 @@
 -- What the fields of a text are read as. Nothing is refused here that a spelling cannot show: what is read is spelled again.
-use Rattle.std.specs.Prelude.{ℕ, ◌+◌, ◌-◌, ◌*◌, nat_le, if◌then◌else◌, ℤ, pos, neg_ℤ, List, [], ◌∷◌, length, drop, codes, Option, Some, None, slice_get, option_map, option_and_then}
+use Rattle.std.specs.Prelude.{ℕ, ◌+◌, nat_le, if◌then◌else◌, ℤ, pos, neg_ℤ, List, [], ◌∷◌, length, drop, codes, Option, Some, None, slice_get, option_map, option_and_then}
 use Rattle.std.specs.Option.{unwrap_or}
 use Rattle.std.specs.Str.{bytes_eq}
-use Rattle.values.specs.Values.{checked, same_text, first_is, is_counted, is_delta, is_gtin, is_line_no, is_lot_text, is_name, is_qty, is_title, is_least_days}
+use Rattle.values.specs.Values.{checked, same_text, first_is, is_counted, is_delta, is_gtin, is_line_no, is_lot_text, is_name, is_qty, is_title, is_least_days, number_from}
 use Rattle.values.specs.declared.lot.LotId.{LotId}
 use Rattle.label.specs.Days.{is_business_day, parsed_day}
 use Rattle.commands.specs.Limits.{has_order_lines}
@@ -25,11 +25,6 @@ abbrev pub field_at : ℕ → Fields → List ℕ
 field_at i f = unwrap_or (slice_get f i) []
 
 -- Values
-
--- the number that digits write, after those before it
-abbrev pub number_from : ℕ → List ℕ → ℕ
-number_from n [] = n
-number_from n (c ∷ cs) = number_from (n * 10 + (c - 48)) cs
 
 -- no number of a command has more than 7 digits
 abbrev pub number_read : List ℕ → Option ℕ

@@ -1,12 +1,14 @@
 // The values that fields are read as.
 
-ghost use Rattle.std.specs.Prelude.{◌≡◌, ◌≤◌, ◌<◌, ◌^◌, length, map, IfSome};
+ghost use Rattle.std.specs.Prelude.{◌≡◌, ◌<◌, ◌^◌, map, IfSome};
 ghost use Rattle.values.specs.Values.{checked, is_gtin, is_lot_text, is_title, is_name};
-ghost use Rattle.texts.specs.Reading.{field_at, number_from, number_read, qty_read, counted_read, least_days_read, line_no_read, rise_read, fall_read, delta_read, business_day_read, lot_read};
+ghost use Rattle.texts.specs.Reading.{field_at, number_read, qty_read, counted_read, least_days_read, line_no_read, rise_read, fall_read, delta_read, business_day_read, lot_read};
 
 use crate::pieces::field;
 use label::{BusinessDay, Day};
-use values::{Counted, Delta, Gtin, LeastDays, LineNo, Lot, LotId, Name, Qty, Title};
+use values::{
+    Counted, Delta, Gtin, LeastDays, LineNo, Lot, LotId, Name, Qty, Title, written_number,
+};
 
 pub(crate) fn name(fields: &[&[u8]], at: usize) -> Option<Name>
     ensures { result ≡ checked is_name (field_at at (map (λ f. f.now) fields.now)) }
@@ -124,20 +126,8 @@ fn number(text: &[u8]) -> Option<u64>
     ensures small { IfSome result (λ n. n < 2 ^ 32) }
 {
     if text.len() <= 7 {
-        Some(written(text))
+        Some(written_number(text))
     } else {
         None
     }
-}
-
-fn written(digits: &[u8]) -> u64
-    requires { length digits.now ≤ 7 }
-    ensures value { result ≡ number_from 0 digits.now }
-    ensures small { result < 2 ^ 32 }
-{
-    let mut n = 0;
-    for c in digits {
-        n = n * 10 + c.saturating_sub(b'0') as u64;
-    }
-    n
 }

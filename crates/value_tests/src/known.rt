@@ -1,6 +1,6 @@
-//! How many rows that are known are kept: bins by their names.
+//! How many rows that are known are kept: bins by their names, and all urgent orders.
 
-use commands::{BinKind, BinRow};
+use commands::{BinKind, BinRow, UrgentRow};
 use rows_in_memory::{KnownRows, WEIGHT_MAX};
 use std::alloc::Global;
 use std::process::Abort;
@@ -41,4 +41,61 @@ fn what_is_known_has_a_bound(rt: HostRuntime) {
     assert!(rt; known.rows_of(&numbered(&rt, alloc, 0)).is_none());
     assert!(rt; known.rows_of(&numbered(&rt, alloc, 32_768)).is_none());
     assert!(rt; known.rows_of(&numbered(&rt, alloc, 32_769)).is_some());
+}
+
+type UrgentsKnown = KnownRows<Name, TextKey, UrgentRow>;
+
+fn urgent(rt: &impl Abort, alloc: Global, number: u64) -> UrgentRow {
+    UrgentRow {
+        order: numbered(rt, alloc, number),
+        act: 1,
+    }
+}
+
+// How many rows of the order are known, if it is known which.
+fn rows_of(rt: &impl Abort, alloc: Global, known: &UrgentsKnown, number: u64) -> Option<usize> {
+    let rows = known.rows_of(&numbered(rt, alloc, number))?;
+    Some(rows.len())
+}
+
+fn keep_all(rt: &impl Abort, alloc: Global, known: &mut UrgentsKnown, count: u64) {
+    let mut rows = Vec::new(alloc);
+    for number in 0..count {
+        assert!(rt; rows.push(urgent(rt, alloc, number)).is_ok());
+    }
+    known.keep_all(rows.as_slice());
+}
+
+// Where all rows are known, an order without a list is known to have none, until it gets one.
+#[test]
+fn all_rows_are_known(rt: HostRuntime) {
+    let alloc = rt.alloc();
+    let mut known: UrgentsKnown = KnownRows::new(alloc);
+    assert!(rt; known.wants_all());
+    assert!(rt; rows_of(&rt, alloc, &known, 0).is_none());
+    keep_all(&rt, alloc, &mut known, 2);
+    assert!(rt; !known.wants_all());
+    assert!(rt; rows_of(&rt, alloc, &known, 1) == Some(1));
+    assert!(rt; rows_of(&rt, alloc, &known, 2) == Some(0));
+    known.put(&urgent(&rt, alloc, 2));
+    assert!(rt; rows_of(&rt, alloc, &known, 2) == Some(1));
+    known.drop_row(&urgent(&rt, alloc, 1));
+    assert!(rt; rows_of(&rt, alloc, &known, 1) == Some(0));
+    known.forget(&numbered(&rt, alloc, 2));
+    assert!(rt; known.wants_all());
+    assert!(rt; rows_of(&rt, alloc, &known, 0) == Some(1));
+    assert!(rt; rows_of(&rt, alloc, &known, 3).is_none());
+}
+
+// 32,768 of one row each are at the bound. With one more the lists are known, and not that they have all rows.
+#[test]
+fn all_rows_have_a_bound(rt: HostRuntime) {
+    let alloc = rt.alloc();
+    let mut known: UrgentsKnown = KnownRows::new(alloc);
+    keep_all(&rt, alloc, &mut known, 32_768);
+    assert!(rt; rows_of(&rt, alloc, &known, 32_768) == Some(0));
+    keep_all(&rt, alloc, &mut known, 32_769);
+    assert!(rt; rows_of(&rt, alloc, &known, 32_768) == Some(1));
+    assert!(rt; rows_of(&rt, alloc, &known, 32_769).is_none());
+    assert!(rt; !known.wants_all());
 }

@@ -45,6 +45,11 @@ is_lower = is_between 97 122
 abbrev pub is_digit : ℕ → Bool
 is_digit = is_between 48 57
 
+-- the number that digits write, after those before it
+abbrev pub number_from : ℕ → List ℕ → ℕ
+number_from n [] = n
+number_from n (c ∷ cs) = number_from (n * 10 + (c - 48)) cs
+
 -- names of orders, deliveries, bins and request keys: capitals, digits and the dash
 abbrev pub is_name_char : ℕ → Bool
 is_name_char c = is_upper c || is_digit c || (c == 45)

@@ -14,7 +14,7 @@ mod text;
 mod text_key;
 mod title;
 
-pub use digits::are_digits;
+pub use digits::{are_digits, written_number};
 pub use fault::LabelFault;
 pub use gtin::Gtin;
 pub use lot::{LOT_MAX, Lot, LotId};

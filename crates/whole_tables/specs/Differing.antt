@@ -2,29 +2,29 @@
 use Rattle.std.specs.Prelude.{◌≡◌, ◌≢◌, Option}
 use Rattle.whole_tables.specs.Words.{Database, Tables, Rule, tables_in, Keeps, Described, rule_of}
 use Rattle.whole_tables.specs.declared.key.RowKey.{RowKey}
-use Rattle.whole_tables.specs.declared.key.RowKey.TheVariants.{Meta, Item, Least, Bin, Lot, Recall, Stock, Order, Urgent, Line, Staged, Reserved, Shipment, Shipline, Card, Repeat}
+use Rattle.whole_tables.specs.declared.key.RowKey.TheVariants as key
 use Rattle.whole_tables.specs.declared.key.TableName.{TableName}
 use Rattle.whole_tables.specs.declared.key.TableName.TheVariants as table
 use Rattle.whole_tables.specs.Family.{Row, Key, described, look}
 
 -- the table of a row, and its key there
 abbrev pub place_of : RowKey → (n : TableName) × Key n
-place_of Meta = (table.Meta, tt)
-place_of (Item gtin) = (table.Items, gtin)
-place_of (Least gtin) = (table.Least, gtin)
-place_of (Bin name) = (table.Bins, name)
-place_of (Lot lot) = (table.Lots, lot)
-place_of (Recall lot) = (table.Recalls, lot)
-place_of (Stock lot bin) = (table.Stock, (lot, bin))
-place_of (Order order) = (table.Orders, order)
-place_of (Urgent order) = (table.Urgents, order)
-place_of (Line order gtin) = (table.Lines, (order, gtin))
-place_of (Staged order lot) = (table.Staged, (order, lot))
-place_of (Reserved order lot) = (table.Reserved, (order, lot))
-place_of (Shipment number) = (table.Shipments, number)
-place_of (Shipline number lot) = (table.Shiplines, (number, lot))
-place_of (Card lot act) = (table.Cards, (lot, act))
-place_of (Repeat k) = (table.Repeats, k)
+place_of key.Meta = (table.Meta, tt)
+place_of (key.Item gtin) = (table.Items, gtin)
+place_of (key.Least gtin) = (table.Least, gtin)
+place_of (key.Bin name) = (table.Bins, name)
+place_of (key.Lot lot) = (table.Lots, lot)
+place_of (key.Recall lot) = (table.Recalls, lot)
+place_of (key.Stock lot bin) = (table.Stock, (lot, bin))
+place_of (key.Order order) = (table.Orders, order)
+place_of (key.Urgent order) = (table.Urgents, order)
+place_of (key.Line order gtin) = (table.Lines, (order, gtin))
+place_of (key.Staged order lot) = (table.Staged, (order, lot))
+place_of (key.Reserved order lot) = (table.Reserved, (order, lot))
+place_of (key.Shipment number) = (table.Shipments, number)
+place_of (key.Shipline number lot) = (table.Shiplines, (number, lot))
+place_of (key.Card lot act) = (table.Cards, (lot, act))
+place_of (key.Repeat k) = (table.Repeats, k)
 
 abbrev pub table_of : RowKey → TableName
 table_of row = (place_of row).0

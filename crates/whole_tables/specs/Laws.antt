@@ -2,8 +2,8 @@
 use Rattle.std.proofs.Common.{refl, ℕ, List}
 use Rattle.sqlite.specs.Listing.{understood}
 use Rattle.sqlite_tied.specs.Compute.{everything}
-use Rattle.whole_tables.specs.Words.{meta, items, all_items, all_items_laws, least, bins, all_bins, all_bins_laws, lots, all_lots, all_lots_laws, recalls, stock, orders, urgents, lines, staged, all_staged, all_staged_laws, reserved, shipments, shiplines, cards, repeats}
-use Rattle.whole_tables.specs.declared.texts.TheConstants.{ALL_META, ALL_LEAST, ALL_RECALLS, ALL_STOCK, ALL_ORDERS, ALL_URGENTS, ALL_LINES, ALL_RESERVED, ALL_SHIPMENTS, ALL_SHIPLINES, ALL_CARDS, ALL_REPEATS, LOWER_STOCK, UPPER_STOCK, LOWER_LINES, UPPER_LINES, LOWER_RESERVED, UPPER_RESERVED, LOWER_SHIPLINES, UPPER_SHIPLINES, LOWER_CARDS, UPPER_CARDS, LOWER_REPEATS, UPPER_REPEATS}
+use Rattle.whole_tables.specs.Words.{meta, items, all_items, all_items_laws, least, bins, all_bins, all_bins_laws, lots, all_lots, all_lots_laws, recalls, stock, orders, lines, staged, all_staged, all_staged_laws, reserved, shipments, shiplines, cards, repeats}
+use Rattle.whole_tables.specs.declared.texts.TheConstants.{ALL_META, ALL_LEAST, ALL_RECALLS, ALL_STOCK, ALL_ORDERS, ALL_LINES, ALL_RESERVED, ALL_SHIPMENTS, ALL_SHIPLINES, ALL_CARDS, ALL_REPEATS, LOWER_STOCK, UPPER_STOCK, LOWER_LINES, UPPER_LINES, LOWER_RESERVED, UPPER_RESERVED, LOWER_SHIPLINES, UPPER_SHIPLINES, LOWER_CARDS, UPPER_CARDS, LOWER_REPEATS, UPPER_REPEATS}
 use Rattle.whole_tables.specs.Whole.{WholeIs}
 use Rattle.whole_tables.specs.Halves.{HalvesAre}
 use Rattle.whole_tables.specs.declared.halves.Half.{Half}
@@ -37,10 +37,6 @@ stock_is rest = (refl, refl, (refl, refl))
 pub orders_is : WholeIs orders ALL_ORDERS.now
 unfolding understood everything
 orders_is rest = (refl, refl, (refl, refl))
-
-pub urgents_is : WholeIs urgents ALL_URGENTS.now
-unfolding understood everything
-urgents_is rest = (refl, refl, (refl, refl))
 
 pub lines_is : WholeIs lines ALL_LINES.now
 unfolding understood everything

@@ -6,4 +6,3 @@ pub mod Family
 pub mod Same
 pub mod Differing
 pub mod Keys
-pub mod ComparedLaws

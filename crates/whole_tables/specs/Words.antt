@@ -30,4 +30,4 @@ pub use Rattle.tables.specs.Shiplines.{shiplines, shiplines_laws}
 pub use Rattle.tables.specs.Shipments.{shipments, shipments_laws}
 pub use Rattle.tables.specs.Staged.{staged, staged_laws, all_staged, all_staged_laws}
 pub use Rattle.tables.specs.Stock.{stock, stock_laws}
-pub use Rattle.tables.specs.Urgents.{urgents, urgents_laws}
+pub use Rattle.tables.specs.Urgents.{urgents, urgents_laws, all_urgents, all_urgents_laws}

@@ -12,8 +12,6 @@ pub(crate) const ALL_STOCK: &str = "SELECT gtin, lot, bin, qty FROM stock ORDER 
 
 pub(crate) const ALL_ORDERS: &str = "SELECT ord, act, customer, state FROM orders ORDER BY rowid";
 
-pub(crate) const ALL_URGENTS: &str = "SELECT ord, act FROM urgents ORDER BY rowid";
-
 pub(crate) const ALL_LINES: &str = "SELECT ord, gtin, ordered, shipped FROM lines ORDER BY rowid";
 
 pub(crate) const ALL_RESERVED: &str = "SELECT ord, gtin, lot, qty FROM reserved ORDER BY rowid";

@@ -19,7 +19,7 @@ pub use Rattle.serde_json.specs.View.{items_of}
 pub use Rattle.serde_json.specs.Written.{items_outline, compact_text}
 pub use Rattle.serde_json.proofs.Texts.{print-outline}
 pub use Rattle.values.specs.Faults.{fault_code}
-pub use Rattle.values.specs.Values.{is_name, is_name_char, is_between, NAME_MAX, is_title, is_gtin, is_lot_text}
+pub use Rattle.values.specs.Values.{is_name, is_name_char, is_between, NAME_MAX, is_title, is_gtin, is_lot_text, number_from}
 pub use Rattle.values.specs.declared.fault.LabelFault.{LabelFault}
 pub use Rattle.values.specs.declared.fault.LabelFault.TheVariants.{BadPrefix, UnknownIdentifier, CutShort, NotADigit, CheckDigit, VariableMeasure, LotEmpty, LotTooLong, LotCharacter, NoSuchDate, IdentifierRepeated, IdentifierMissing, SeparatorMisplaced, OutOfMemory}
 pub use Rattle.label.specs.Days.{day_text}
@@ -40,7 +40,7 @@ pub use Rattle.overviews.specs.declared.lists.BinLot.{BinLot}
 pub use Rattle.overviews.specs.declared.lists.NamedItem.{NamedItem}
 pub use Rattle.overviews.specs.declared.lists.OpenOrder.{OpenOrder}
 pub use Rattle.requests.specs.Faults.{wire_code}
-pub use Rattle.requests.specs.Head.{HEAD_MAX, BODY_MAX, head_end, fields_of, body_length, is_named, length_field, number_from, Named}
+pub use Rattle.requests.specs.Head.{HEAD_MAX, BODY_MAX, head_end, fields_of, body_length, is_named, length_field, Named}
 pub use Rattle.requests.specs.Laws.{needs_more}
 pub use Rattle.requests.specs.Requests.{headless, answered, after_head, read_ask, IsCutReading, IsReading}
 pub use Rattle.requests.specs.declared.ask.Ask.{Ask}

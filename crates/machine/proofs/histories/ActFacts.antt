@@ -1,8 +1,8 @@
 -- What an act of each kind posts, and what holds of it where it is accepted. The laws over all histories are proved of the few forms that
 -- postings have, and so need no match over the commands.
-use Rattle.machine.proofs.Words.{◌≡◌, ℕ, suc, ◌+◌, ◌-◌, ◌≤◌, Bool, true, false, List, [], ◌∷◌, ◌++◌, refl, ap, eq-eqb, ◌==◌, if◌then◌else◌, find, Some, None, is_some, ℤ, pos, negsuc, LotId, UNITS_MAX, Key, Receipt, Adjustment, Command, Receive, Move, Count, Adjust, Pick, Unpick, Ship, Hold, Recall, OpenDay, Least, Act, next_number, Place, Supplier, InBin, Stage, Shipped, WriteOff, Posting, balance, is_bin, is_stage, is_lot, of_item, in_house, KnownLot, Placed, RETURNS, has_bin, lots, lot_among, has_lot, with_receipt, orders, has_line, shipments, shipments_so_far, today, posting, correction, cleared, shipped_off, lot_returned, returned, made_unshippable, posted, postings, in_bin, units_in_house, touches, verdict, taken_off, put_on}
+use Rattle.machine.proofs.Words.{◌≡◌, ℕ, suc, ◌+◌, ◌-◌, ◌≤◌, Bool, true, false, List, [], ◌∷◌, ◌++◌, refl, ap, eq-eqb, ◌==◌, if◌then◌else◌, find, Some, None, is_some, ℤ, pos, negsuc, LotId, UNITS_MAX, Key, Receipt, Adjustment, Command, Receive, Move, Count, Adjust, Pick, Unpick, Ship, Hold, Recall, OpenDay, Least, Act, next_number, Place, Supplier, InBin, Stage, Shipped, WriteOff, Posting, balance, is_bin, is_stage, is_lot, of_item, in_house, KnownLot, Placed, RETURNS, has_bin, lots, lot_among, has_lot, with_receipt, orders, has_line, shipments, shipments_so_far, today, posting, correction, cleared, shipped_off, lot_returned, returned, made_unshippable, posted, postings, in_bin, units_in_house, touches, verdict, taken_off, put_on, Order, Urgent, has_order, order_in, Option}
 use Rattle.machine.proofs.Tests.{is_lot_refl}
-use Rattle.machine.proofs.histories.Accepted.{receive_accepted, move_accepted, count_accepted, adjust_accepted, pick_accepted, unpick_accepted}
+use Rattle.machine.proofs.histories.Accepted.{receive_accepted, move_accepted, count_accepted, adjust_accepted, pick_accepted, unpick_accepted, order_accepted, urgent_accepted}
 use Rattle.machine.proofs.histories.Cells.{CanTake}
 
 -- The forms that the postings of an act have
@@ -161,6 +161,17 @@ module _ (first : ℤ) (key : Key) (before : List Act) where
         own = λ g. refl;
       }
   facts_of _ ok = tt
+
+-- The order that an act makes known
+
+abbrev pub IsNew : List Act → Option Placed → Type 0
+IsNew before None = Unit {0}
+IsNew before (Some p) = has_order before p.order ≡ false
+
+pub order_is_new : (first : ℤ) (before : List Act) (c : Command) → verdict first before c ≡ None → IsNew before (order_in (next_number before) c)
+order_is_new first before (Order o) ok = (order_accepted first before o ok).new
+order_is_new first before (Urgent o) ok = (urgent_accepted first before o ok).new
+order_is_new first before _ ok = tt
 
 -- Of each posting of a list
 

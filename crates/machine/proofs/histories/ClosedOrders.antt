@@ -1,7 +1,8 @@
 -- On a history no more of a line is staged and shipped than is ordered, and a closed order has nothing staged or reserved.
-use Rattle.machine.proofs.Words.{◌≡◌, ℕ, ◌+◌, ◌-◌, ◌≤◌, Bool, true, false, ◌&&◌, not, List, [], ◌∷◌, ◌++◌, refl, ap, sym, ◌∙◌, arith, ◌==◌, ◌||◌, if◌then◌else◌, find, Option, Some, None, is_some, ℤ, list_all, eqb-true, same_text, LotId, Key, OrderLine, Command, Order, Cancel, Pick, Urgent, Open, Done, Cancelled, Act, next_number, Place, Supplier, InBin, Stage, Shipped, WriteOff, Posting, balance, is_stage, is_shipped_to, is_lot, any_lot, of_item, Placed, orders, order_named, has_order, lines_of, lines_placed, is_cancelled, posting, posted, postings, item_postings, staged, shipped, shipped_of, staged_of_lot, staged_for_order, is_open, is_open_state, is_shipped_in_full, reserved, verdict, names_item_twice, IsHistory, ClosedOrdersAreEmpty}
+use Rattle.machine.proofs.Words.{◌≡◌, ℕ, ◌+◌, ◌-◌, ◌≤◌, Bool, true, false, ◌&&◌, not, List, [], ◌∷◌, ◌++◌, refl, ap, sym, ◌∙◌, arith, ◌==◌, ◌||◌, if◌then◌else◌, find, Option, Some, None, is_some, ℤ, list_all, eqb-true, same_text, LotId, Key, OrderLine, Command, Cancel, Pick, Open, Done, Cancelled, Act, next_number, Place, Supplier, InBin, Stage, Shipped, WriteOff, Posting, balance, is_stage, is_shipped_to, is_lot, any_lot, of_item, Placed, orders, order_named, has_order, lines_of, lines_placed, is_cancelled, posting, posted, postings, item_postings, staged, shipped, shipped_of, staged_of_lot, staged_for_order, is_open, is_open_state, is_shipped_in_full, reserved, verdict, names_item_twice, IsHistory, ClosedOrdersAreEmpty, order_in, cons_option}
 use Rattle.machine.proofs.Tests.{same_text_is, is_lot_item, and_both}
-use Rattle.machine.proofs.histories.Accepted.{order_accepted, urgent_accepted, cancel_accepted, pick_accepted}
+use Rattle.machine.proofs.histories.Accepted.{cancel_accepted, pick_accepted}
+use Rattle.machine.proofs.histories.ActFacts.{IsNew, order_is_new}
 use Rattle.machine.proofs.histories.Cells.{Cells, holds, Inner, Legal, IsPart, without, stage_cell, inner_stage, holds_split}
 use Rattle.machine.proofs.histories.LegalHistories.{legal_history}
 use Rattle.machine.proofs.histories.ItemBalances.{balance-of_item}
@@ -164,7 +165,7 @@ reserved_fits first acts h o l = by_order (order_named acts o) refl
 -- No more is served than is ordered
 
 ordered_grows : (first : ℤ) (act : Act) (before : List Act) → verdict first before act.command ≡ None → (o g : List ℕ) → ordered_of before o g ≤ ordered_of (act ∷ before) o g
-ordered_grows first act before ok o g = by_command act.command ok
+ordered_grows first act before ok o g = by_order (order_in (next_number before) act.command) (order_is_new first before act.command ok)
   where
     same_line : ordered_of before o g ≤ ordered_of before o g
     same_line = omega arith
@@ -173,20 +174,13 @@ ordered_grows first act before ok o g = by_command act.command ok
     none_named None e = refl
     none_named (Some p) e = let f : true ≡ false = e in cc
 
-    by_command : (c : Command) → verdict first before c ≡ None → ordered_of before o g ≤ ordered_of (record { key = act.key; command = c } ∷ before) o g
-    by_command (Order n) fine =
-        elim (same_text o n.order) as (λ b. same_text o n.order ≡ b
-        → ordered_of before o g ≤ line_qty (find (λ l. same_text g l.gtin) (lines_placed (if b then Some (record { order = n.order; act = next_number before; customer = n.customer; lines = n.lines; urgent = false }) else order_named before o)))) [
-          | true ↦ λ t. omega (arith, none_named (order_named before o) (ap (λ (x : List ℕ). has_order before x) (same_text_is o n.order t) ∙ (order_accepted first before n fine).new))
+    by_order : (p : Option Placed) → IsNew before p → ordered_of before o g ≤ line_qty (find (λ l. same_text g l.gtin) (lines_placed (find (λ q. same_text o q.order) (cons_option p (orders before)))))
+    by_order None new = same_line
+    by_order (Some p) new =
+        elim (same_text o p.order) as (λ b. same_text o p.order ≡ b → ordered_of before o g ≤ line_qty (find (λ l. same_text g l.gtin) (lines_placed (if b then Some p else order_named before o)))) [
+          | true ↦ λ t. omega (arith, none_named (order_named before o) (ap (λ (x : List ℕ). has_order before x) (same_text_is o p.order t) ∙ new))
           | false ↦ λ t. same_line
         ] refl
-    by_command (Urgent n) fine =
-        elim (same_text o n.order) as (λ b. same_text o n.order ≡ b
-        → ordered_of before o g ≤ line_qty (find (λ l. same_text g l.gtin) (lines_placed (if b then Some (record { order = n.order; act = next_number before; customer = n.customer; lines = n.lines; urgent = true }) else order_named before o)))) [
-          | true ↦ λ t. omega (arith, none_named (order_named before o) (ap (λ (x : List ℕ). has_order before x) (same_text_is o n.order t) ∙ (urgent_accepted first before n fine).new))
-          | false ↦ λ t. same_line
-        ] refl
-    by_command _ fine = same_line
 
 module _ (first : ℤ) (key : Key) (before : List Act) (history : IsHistory first before) (o g : List ℕ) (h : holds (served o g) (postings first before) ≤ ordered_of before o g) where
   served_other : (c : Command) → is_pick c ≡ false → holds (served o g) (posted first (record { key = key; command = c }) before (postings first before) c ++ postings first before) ≤ ordered_of before o g

@@ -1,9 +1,8 @@
 -- On a history units stand only in known bins, on stages of known order lines and in known shipments, and only of known lots.
-use Rattle.machine.proofs.Words.{◌≡◌, ℕ, ◌+◌, ◌-◌, Bool, true, false, ◌&&◌, List, [], ◌∷◌, ◌++◌, refl, ap, sym, subst, ◌∙◌, arith, eq-eqb, ◌==◌, if◌then◌else◌, find, Option, Some, None, is_some, ℤ, list_any, eqb-true, same_text, LotId, NewBin, Receipt, Command, Bin, Receive, Order, Ship, Urgent, ShipmentRow, Act, next_number, gathered, Place, Supplier, InBin, Stage, Shipped, WriteOff, Posting, balance, is_bin, is_stage, is_lot, is_shipment, KnownLot, Placed, RETURNS, bin_in, bins, has_bin, returns_bin, lots, lots_after, lot_among, has_lot, with_receipt, order_named, has_order, has_line, lines_placed, shipments, shipments_so_far, postings, postings_of, verdict, IsHistory}
+use Rattle.machine.proofs.Words.{◌≡◌, ℕ, ◌+◌, ◌-◌, Bool, true, false, ◌&&◌, List, [], ◌∷◌, ◌++◌, refl, ap, sym, subst, ◌∙◌, arith, eq-eqb, ◌==◌, if◌then◌else◌, find, Option, Some, None, is_some, ℤ, list_any, eqb-true, same_text, LotId, NewBin, Receipt, Command, Bin, Receive, Ship, ShipmentRow, Act, next_number, gathered, Place, Supplier, InBin, Stage, Shipped, WriteOff, Posting, balance, is_bin, is_stage, is_lot, is_shipment, KnownLot, Placed, RETURNS, bin_in, bins, has_bin, returns_bin, lots, lots_after, lot_among, has_lot, with_receipt, order_named, has_order, has_line, lines_placed, shipments, shipments_so_far, postings, postings_of, verdict, IsHistory, order_in, cons_option, orders}
 use Rattle.machine.proofs.Tests.{same_text_is, is_lot_is, and_both, and_later_false}
-use Rattle.machine.proofs.histories.Accepted.{order_accepted, urgent_accepted}
 pub use Rattle.machine.proofs.histories.ActFacts.{has_shipment, KnownPlace}
-use Rattle.machine.proofs.histories.ActFacts.{Entry, Nothing, One, Corrected, ShippedOff, Returned, entry_of, entry_posted, Facts, facts_of, Each, each-append, each_of_entry, Cleared, Shown, all_returned}
+use Rattle.machine.proofs.histories.ActFacts.{Entry, Nothing, One, Corrected, ShippedOff, Returned, entry_of, entry_posted, Facts, facts_of, IsNew, order_is_new, Each, each-append, each_of_entry, Cleared, Shown, all_returned}
 use Rattle.machine.proofs.histories.Cells.{Cells, into, holds}
 
 pub record IsKnown (first : ℤ) (acts : List Act) (p : Posting) : Type 0 where
@@ -53,26 +52,17 @@ module _ (first : ℤ) (act : Act) (before : List Act) (ok : verdict first befor
       by_command _ = h
 
   line_stays : (o g : List ℕ) → has_line before o g ≡ true → has_line after o g ≡ true
-  line_stays o g h = by_command act.command ok
+  line_stays o g h = by_order (order_in (next_number before) act.command) (order_is_new first before act.command ok)
     where
-      by_command : (c : Command) → verdict first before c ≡ None → has_line (record { key = act.key; command = c } ∷ before) o g ≡ true
-      by_command (Order n) fine =
-          elim (same_text o n.order) as (λ b. same_text o n.order ≡ b
-          → list_any (λ l. same_text g l.gtin) (lines_placed (if b then Some (record { order = n.order; act = next_number before; customer = n.customer; lines = n.lines; urgent = false }) else order_named before o)) ≡ true) [
+      by_order : (p : Option Placed) → IsNew before p → list_any (λ l. same_text g l.gtin) (lines_placed (find (λ q. same_text o q.order) (cons_option p (orders before)))) ≡ true
+      by_order None new = h
+      by_order (Some p) new =
+          elim (same_text o p.order) as (λ b. same_text o p.order ≡ b → list_any (λ l. same_text g l.gtin) (lines_placed (if b then Some p else order_named before o)) ≡ true) [
             | true ↦ λ e.
-                let f : true ≡ false = sym (line_known before o g h) ∙ ap (λ (x : List ℕ). has_order before x) (same_text_is o n.order e) ∙ (order_accepted first before n fine).new in
+                let f : true ≡ false = sym (line_known before o g h) ∙ ap (λ (x : List ℕ). has_order before x) (same_text_is o p.order e) ∙ new in
                 cc
             | false ↦ λ e. h
           ] refl
-      by_command (Urgent n) fine =
-          elim (same_text o n.order) as (λ b. same_text o n.order ≡ b
-          → list_any (λ l. same_text g l.gtin) (lines_placed (if b then Some (record { order = n.order; act = next_number before; customer = n.customer; lines = n.lines; urgent = true }) else order_named before o)) ≡ true) [
-            | true ↦ λ e.
-                let f : true ≡ false = sym (line_known before o g h) ∙ ap (λ (x : List ℕ). has_order before x) (same_text_is o n.order e) ∙ (urgent_accepted first before n fine).new in
-                cc
-            | false ↦ λ e. h
-          ] refl
-      by_command _ fine = h
 
   shipment_stays : (n : ℕ) → has_shipment first before n ≡ true → has_shipment first after n ≡ true
   shipment_stays n h = by_command act.command

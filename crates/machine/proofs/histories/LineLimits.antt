@@ -1,5 +1,5 @@
 -- No line asks for more units than a quantity may have, and there are no more shipments than acts.
-use Rattle.machine.proofs.Words.{◌≡◌, ℕ, ◌+◌, ◌≤◌, true, false, ◌&&◌, List, [], ◌∷◌, arith, lit≤, if◌then◌else◌, find, length, Some, ℤ, list_all, QTY_MAX, same_text, is_qty, is_gtin, is_name, is_title, has_order_lines, is_sound, is_order_line, are_lines, OrderLine, Command, Urgent, Order, Ship, Act, next_number, order_named, lines_placed, shipments, shipments_after, shipments_so_far, IsHistory}
+use Rattle.machine.proofs.Words.{◌≡◌, ℕ, ◌+◌, ◌≤◌, true, false, ◌&&◌, List, [], ◌∷◌, arith, lit≤, if◌then◌else◌, find, length, Some, ℤ, list_all, QTY_MAX, same_text, is_qty, is_gtin, is_name, is_title, has_order_lines, is_sound, is_order_line, is_new_order, are_lines, OrderLine, Command, Urgent, Order, Ship, Act, next_number, order_named, lines_placed, shipments, shipments_after, shipments_so_far, IsHistory, order_in, cons_option, orders, Option, None, Placed, NewOrder}
 use Rattle.machine.proofs.Tests.{and_both}
 use Rattle.machine.proofs.histories.Quantities.{at_most_limit}
 use Rattle.machine.proofs.histories.Needs.{line_qty}
@@ -16,27 +16,28 @@ sound_line g (l ∷ ls) e =
       | false ↦ sound_line g ls two.1
     ]
 
-ordered_after : (act : Act) (before : List Act) (o g : List ℕ) → ordered_of before o g ≤ QTY_MAX → (c : Command) → is_sound c ≡ true → ordered_of (record { key = act.key; command = c } ∷ before) o g ≤ QTY_MAX
-ordered_after act before o g h (Order n) e =
-    elim (same_text o n.order) as (λ b. line_qty (find (λ l. same_text g l.gtin) (lines_placed (if b then Some (record { order = n.order; act = next_number before; customer = n.customer; lines = n.lines; urgent = false }) else order_named before o))) ≤ QTY_MAX) [
-      | true ↦
-          let lines : are_lines n.lines ≡ true = (and_both (is_name n.order && is_title n.customer) (are_lines n.lines) e).1 in
-          sound_line g n.lines (and_both (has_order_lines n.lines) (list_all is_order_line n.lines) lines).1
-      | false ↦ h
-    ]
-ordered_after act before o g h (Urgent n) e =
-    elim (same_text o n.order) as (λ b. line_qty (find (λ l. same_text g l.gtin) (lines_placed (if b then Some (record { order = n.order; act = next_number before; customer = n.customer; lines = n.lines; urgent = true }) else order_named before o))) ≤ QTY_MAX) [
-      | true ↦
-          let lines : are_lines n.lines ≡ true = (and_both (is_name n.order && is_title n.customer) (are_lines n.lines) e).1 in
-          sound_line g n.lines (and_both (has_order_lines n.lines) (list_all is_order_line n.lines) lines).1
-      | false ↦ h
-    ]
-ordered_after act before o g h _ e = h
+abbrev AreSound : Option Placed → Type 0
+AreSound None = Unit {0}
+AreSound (Some p) = list_all is_order_line p.lines ≡ true
+
+sound_order : (n : NewOrder) → is_new_order n ≡ true → list_all is_order_line n.lines ≡ true
+sound_order n e = (and_both (has_order_lines n.lines) (list_all is_order_line n.lines) (and_both (is_name n.order && is_title n.customer) (are_lines n.lines) e).1).1
+
+order_is_sound : (n : ℕ) (c : Command) → is_sound c ≡ true → AreSound (order_in n c)
+order_is_sound n (Order o) e = sound_order o e
+order_is_sound n (Urgent o) e = sound_order o e
+order_is_sound n _ e = tt
+
+ordered_after : (before : List Act) (o g : List ℕ) → ordered_of before o g ≤ QTY_MAX → (p : Option Placed) → AreSound p
+    → line_qty (find (λ l. same_text g l.gtin) (lines_placed (find (λ q. same_text o q.order) (cons_option p (orders before))))) ≤ QTY_MAX
+ordered_after before o g h None e = h
+ordered_after before o g h (Some p) e =
+    elim (same_text o p.order) as (λ b. line_qty (find (λ l. same_text g l.gtin) (lines_placed (if b then Some p else order_named before o))) ≤ QTY_MAX) [ true ↦ sound_line g p.lines e | false ↦ h ]
 
 -- an order asks for no more units of an item than a quantity may have
 pub ordered_within_limit : (first : ℤ) (acts : List Act) → IsHistory first acts → (o g : List ℕ) → ordered_of acts o g ≤ QTY_MAX
 ordered_within_limit first [] h o g = lit≤ tt
-ordered_within_limit first (act ∷ before) h o g = ordered_after act before o g (ordered_within_limit first before h.0 o g) act.command h.1.sound.command
+ordered_within_limit first (act ∷ before) h o g = ordered_after before o g (ordered_within_limit first before h.0 o g) (order_in (next_number before) act.command) (order_is_sound (next_number before) act.command h.1.sound.command)
 
 -- Shipments
 

@@ -1,5 +1,5 @@
 -- An order that is new is not cancelled and has nothing staged or shipped.
-use Rattle.machine.proofs.Words.{◌≡◌, ℕ, true, false, List, [], ◌∷◌, refl, ap, sym, ◌∙◌, arith, ◌||◌, if◌then◌else◌, ℤ, Option, Some, None, find, is_some, same_text, Key, Command, Urgent, Order, Cancel, Act, next_number, is_stage, of_item, Placed, order_named, has_order, lines_placed, is_cancelled, postings, item_postings, staged, shipped_of, verdict, IsHistory}
+use Rattle.machine.proofs.Words.{◌≡◌, ℕ, true, false, List, [], ◌∷◌, refl, ap, sym, ◌∙◌, arith, ◌||◌, if◌then◌else◌, ℤ, Option, Some, None, find, is_some, same_text, Key, Command, Cancel, Act, next_number, is_stage, of_item, Placed, order_named, has_order, lines_placed, is_cancelled, postings, item_postings, staged, shipped_of, verdict, IsHistory, order_in, cons_option, orders}
 use Rattle.machine.proofs.Tests.{same_text_is}
 use Rattle.machine.proofs.histories.Accepted.{cancel_accepted}
 use Rattle.machine.proofs.histories.Needs.{line_qty}
@@ -23,17 +23,11 @@ module _ (first : ℤ) (key : Key) (before : List Act) (o : List ℕ) (h : is_ca
         | true ↦ λ t f. ap (λ (x : List ℕ). has_order before x) (same_text_is o u t) ∙ (cancel_accepted first before u ok).order
         | false ↦ λ t f. h f
       ] refl e
-  known_after (Order n) ok e =
-      elim (same_text o n.order) as (λ b. is_some (if b then Some (record { order = n.order; act = next_number before; customer = n.customer; lines = n.lines; urgent = false }) else order_named before o) ≡ true) [
-        | true ↦ refl
-        | false ↦ h e
-      ]
-  known_after (Urgent n) ok e =
-      elim (same_text o n.order) as (λ b. is_some (if b then Some (record { order = n.order; act = next_number before; customer = n.customer; lines = n.lines; urgent = true }) else order_named before o) ≡ true) [
-        | true ↦ refl
-        | false ↦ h e
-      ]
-  known_after _ ok e = h e
+  known_after c ok e = still_placed (order_in (next_number before) c)
+    where
+      still_placed : (p : Option Placed) → is_some (find (λ q. same_text o q.order) (cons_option p (orders before))) ≡ true
+      still_placed None = h e
+      still_placed (Some p) = elim (same_text o p.order) as (λ b. is_some (if b then Some p else order_named before o) ≡ true) [ true ↦ refl | false ↦ h e ]
 
 cancelled_is_known : (first : ℤ) (acts : List Act) → IsHistory first acts → (o : List ℕ) → is_cancelled acts o ≡ true → has_order acts o ≡ true
 cancelled_is_known first [] h o e = let f : false ≡ true = e in cc

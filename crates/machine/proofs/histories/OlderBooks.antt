@@ -1,5 +1,5 @@
 -- Books of schema 1 ask for no days, and neither they nor those of schema 2 have an urgent order.
-use Rattle.machine.proofs.Words.{◌≡◌, ℕ, true, false, ◌&&◌, List, [], ◌∷◌, refl, ap, sym, nat_le, if◌then◌else◌, Option, Some, None, option_map, ℤ, same_text, asking_none, Key, NewItem, Command, Order, Least, Urgent, LeastRow, UrgentRow, Act, next_number, item_named, least_days, order_named, Tables, meta_row, item_row, least_row, bin_row, lot_row, recall_row, stock_row, order_row, if_urgent, urgent_row, line_row, staged_row, reserved_row, shipment_row, shipline_row, card_row, repeat_row, tables_of, schema_of, are_of_schema, FirstBooksGoOn, SecondBooksGoOn}
+use Rattle.machine.proofs.Words.{◌≡◌, ℕ, true, false, ◌&&◌, List, [], ◌∷◌, refl, ap, sym, nat_le, if◌then◌else◌, Some, None, option_map, same_text, asking_none, Key, NewItem, Command, Order, Least, Urgent, Act, next_number, item_named, least_days, order_named, item_row, least_row, if_urgent, urgent_row, tables_of, schema_of, are_of_schema, FirstBooksGoOn, SecondBooksGoOn}
 use Rattle.machine.proofs.Tests.{and_both}
 
 -- Days that are asked for
@@ -54,32 +54,11 @@ first_are_second (act ∷ before) e =
     let s = and_both (nat_le (schema_of act.command) 1) (are_of_schema 1 before) e in
     λ i. first_command_is_second act.command s.0 i && first_are_second before s.1 i
 
--- all tables, with these rows of `least` and of `urgents`
-abbrev with_rows : ℤ → List Act → (List ℕ → Option LeastRow) → (List ℕ → Option UrgentRow) → Tables
-with_rows first acts asked urgents = record {
-  meta = Some (meta_row first acts);
-  item = item_row acts;
-  least = asked;
-  bin = bin_row acts;
-  lot = lot_row acts;
-  recall = recall_row acts;
-  stock = stock_row first acts;
-  order = order_row first acts;
-  urgent = urgents;
-  line = line_row first acts;
-  staged = staged_row first acts;
-  reserved = reserved_row first acts;
-  shipment = shipment_row first acts;
-  shipline = shipline_row first acts;
-  card = card_row first acts;
-  repeat = repeat_row first acts;
-}
-
 pub first_books_go_on : FirstBooksGoOn
 unfolding tables_of
 first_books_go_on first acts old =
-    λ i. with_rows first acts (λ g. none_asked acts g old i) (λ o. sym (none_urgent acts o (first_are_second acts old)) i)
+    λ i. record (tables_of first acts) { least = λ g. none_asked acts g old i; urgent = λ o. sym (none_urgent acts o (first_are_second acts old)) i }
 
 pub second_books_go_on : SecondBooksGoOn
 unfolding tables_of
-second_books_go_on first acts old = λ i. with_rows first acts (least_row acts) (λ o. sym (none_urgent acts o old) i)
+second_books_go_on first acts old = λ i. record (tables_of first acts) { urgent = λ o. sym (none_urgent acts o old) i }

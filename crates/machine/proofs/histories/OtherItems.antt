@@ -1,9 +1,9 @@
 -- An act leaves the items alone that it does not touch.
-use Rattle.machine.proofs.Words.{◌≡◌, ℕ, ◌+◌, ◌-◌, Bool, true, false, ◌&&◌, not, List, [], ◌∷◌, ◌++◌, refl, ap, sym, subst, ◌∙◌, arith, ◌==◌, ◌||◌, if◌then◌else◌, find, filter, map, reverse, flat_map, Option, Some, None, is_some, ℤ, pos, int_lt, int_le, ◌+ℤ◌, list_any, ints, same_text, LotId, total, in_order, Key, NewBin, NewOrder, Receipt, NewLeast, OrderLine, Command, Bin, Receive, Order, Cancel, Hold, Release, Recall, OpenDay, Least, Urgent, plan_rows, Act, gathered, next_number, Place, InBin, Posting, units_in, units_out, is_lot, of_item, KnownLot, Placed, lots, lots_of, lot_among, lot_known, has_bin, bin_named, is_store_bin, is_store_row, orders, order_named, lines_placed, has_line, is_cancelled, is_shippable, is_held, is_recalled, is_expired, says_held, hold_in, recall_in, least_in, days_asked, least_days, least_expiry, today, lot_returned, returned, posted, postings, is_urgent, is_normal, booking_of, lines_of_item, bookings, need, demands, demand_of, supplies, supply_of, goes_before, item_postings, staged, shipped, in_store, plan, reserved, reserved_of, touches, verdict, IsHistory, OtherItemsAreLeftAlone}
+use Rattle.machine.proofs.Words.{◌≡◌, ℕ, ◌+◌, ◌-◌, Bool, true, false, ◌&&◌, not, List, [], ◌∷◌, ◌++◌, refl, ap, sym, subst, ◌∙◌, arith, ◌==◌, ◌||◌, if◌then◌else◌, find, filter, map, reverse, flat_map, Option, Some, None, is_some, ℤ, pos, int_lt, int_le, ◌+ℤ◌, list_any, ints, same_text, LotId, total, in_order, Key, NewBin, NewOrder, Receipt, NewLeast, OrderLine, Command, Bin, Receive, Order, Cancel, Hold, Release, Recall, OpenDay, Least, Urgent, plan_rows, Act, gathered, next_number, Place, InBin, Posting, units_in, units_out, is_lot, of_item, KnownLot, Placed, lots, lots_of, lot_among, lot_known, has_bin, bin_named, is_store_bin, is_store_row, orders, order_named, lines_placed, has_line, is_cancelled, is_shippable, is_held, is_recalled, is_expired, says_held, hold_in, recall_in, least_in, days_asked, least_days, least_expiry, today, lot_returned, returned, posted, postings, is_urgent, is_normal, booking_of, lines_of_item, bookings, need, demands, demand_of, supplies, supply_of, goes_before, item_postings, staged, shipped, in_store, plan, reserved, reserved_of, touches, verdict, IsHistory, OtherItemsAreLeftAlone, has_order}
 use Rattle.machine.proofs.Mapping.{map_reversed, map_appended}
 use Rattle.machine.proofs.Tests.{same_text_is, same_text_refl, is_lot_is, or_none}
-use Rattle.machine.proofs.histories.Accepted.{bin_accepted, order_accepted, urgent_accepted, day_accepted}
-use Rattle.machine.proofs.histories.ActFacts.{Entry, Nothing, One, Corrected, ShippedOff, Returned, entry_of, entry_posted, Facts, facts_of, Each, each-append, each_lot_returned, each_of_entry, Shown}
+use Rattle.machine.proofs.histories.Accepted.{bin_accepted, day_accepted}
+use Rattle.machine.proofs.histories.ActFacts.{Entry, Nothing, One, Corrected, ShippedOff, Returned, entry_of, entry_posted, Facts, facts_of, order_is_new, Each, each-append, each_lot_returned, each_of_entry, Shown}
 use Rattle.machine.proofs.histories.Orders.{orders_found, same_order}
 use Rattle.machine.proofs.Apart.{AllFound, found_kept}
 use Rattle.machine.proofs.histories.KnownPlaces.{AllKnown, KnownPlace, known_postings, unknown_line_is_unstaged}
@@ -250,14 +250,15 @@ module _ (first : ℤ) (key : Key) (before : List Act) (g : List ℕ) where
       subst (AllOther g) (entry_posted first (done c) before old c)
       (each_of_entry (IsOther g) first (done c) before old (entry_of c) (others_shown c h e (ships_same c ok e) (entry_of c) (facts_of first key before c ok)))
 
+  abbrev placed_by : NewOrder → Bool → Placed
+  placed_by o urgent = record { order = o.order; act = next_number before; customer = o.customer; lines = o.lines; urgent = urgent }
+
   -- its demands and supplies are those of the same bookings and lots
   demands_after : (c : Command) → IsHistory first before → touches first (done c) before c g ≡ false → demands first (done c ∷ before) g ≡ map (demand_of before (item_postings first (done c ∷ before) g)) (bookings before g)
   demands_after (Order o) h e =
-      let new : Placed = record { order = o.order; act = next_number before; customer = o.customer; lines = o.lines; urgent = false } in
-      λ i. map (demand_of before (item_postings first before g)) (reverse (flat_map (lines_of_item g) (filter is_urgent (orders before))) ++ reverse (map (booking_of new) (no_line o.lines e i) ++ flat_map (lines_of_item g) (filter is_normal (orders before))))
+      λ i. map (demand_of before (item_postings first before g)) (reverse (flat_map (lines_of_item g) (filter is_urgent (orders before))) ++ reverse (map (booking_of (placed_by o false)) (no_line o.lines e i) ++ flat_map (lines_of_item g) (filter is_normal (orders before))))
   demands_after (Urgent o) h e =
-      let new : Placed = record { order = o.order; act = next_number before; customer = o.customer; lines = o.lines; urgent = true } in
-      λ i. map (demand_of before (item_postings first before g)) (reverse (map (booking_of new) (no_line o.lines e i) ++ flat_map (lines_of_item g) (filter is_urgent (orders before))) ++ reverse (flat_map (lines_of_item g) (filter is_normal (orders before))))
+      λ i. map (demand_of before (item_postings first before g)) (reverse (map (booking_of (placed_by o true)) (no_line o.lines e i) ++ flat_map (lines_of_item g) (filter is_urgent (orders before))) ++ reverse (flat_map (lines_of_item g) (filter is_normal (orders before))))
   demands_after (Cancel o) h e =
       let ps = item_postings first before g in
       let f = demand_of (done (Cancel o) ∷ before) ps in
@@ -305,37 +306,18 @@ module _ (first : ℤ) (key : Key) (before : List Act) (g : List ℕ) where
         ]
 
     -- a new order without the item has nothing of it
-    new_order : (n : NewOrder) → verdict first before (Order n) ≡ None → list_any (λ x. same_text g x.gtin) n.lines ≡ false → IsSame (Order n) → reserved first (done (Order n) ∷ before) o l ≡ reserved first before o l
-    new_order n ok e s =
-        elim (same_text o n.order) as (λ b. same_text o n.order ≡ b → reserved first (done (Order n) ∷ before) o l ≡ reserved first before o l) [
+    new_order : (c : Command) (new : Placed) → order_named (done c ∷ before) o ≡ (if same_text o new.order then Some new else order_named before o) → lot_known (done c ∷ before) l ≡ lot_known before l
+        → has_order before new.order ≡ false → list_any (λ x. same_text g x.gtin) new.lines ≡ false → IsSame c → reserved first (done c ∷ before) o l ≡ reserved first before o l
+    new_order c new orders lot fresh e s =
+        elim (same_text o new.order) as (λ b. same_text o new.order ≡ b → reserved first (done c ∷ before) o l ≡ reserved first before o l) [
           | true ↦ λ t.
-              let new : Placed = record { order = n.order; act = next_number before; customer = n.customer; lines = n.lines; urgent = false } in
-              let named : order_named (done (Order n) ∷ before) o ≡ Some new = ap (λ b. if b then Some new else order_named before o) t in
-              let none : filter (λ (x : OrderLine). same_text l.gtin x.gtin) n.lines ≡ [] = ap (λ (x : List ℕ). filter (λ (y : OrderLine). same_text x y.gtin) n.lines) (sym item) ∙ no_line n.lines e in
-              let nothing : needs (done (Order n) ∷ before) (item_postings first (done (Order n) ∷ before) l.gtin) l.gtin new ≡ 0 =
-              ap (λ (xs : List OrderLine). total (λ b. need (done (Order n) ∷ before) (item_postings first (done (Order n) ∷ before) l.gtin) b) (map (booking_of new) xs)) none in
-              let unknown : is_some (order_named before o) ≡ false = ap (λ (x : List ℕ). is_some (order_named before x)) (same_text_is o n.order t) ∙ (order_accepted first before n ok).new in
-              omega (arith, reserved_within_needs first (done (Order n) ∷ before) o l new named, nothing, unknown_is_unreserved first before o l (not_some (order_named before o) unknown))
-          | false ↦ λ t. by_plan (Order n) s ∙ ap (λ b. reserved_of (if b then Some (record { order = n.order; act = next_number before; customer = n.customer; lines = n.lines; urgent = false }) else order_named before o) (lot_known before l) (plan first before l.gtin)) t
-        ] refl
-      where
-        not_some : (p : Option Placed) → is_some p ≡ false → p ≡ None
-        not_some None f = refl
-        not_some (Some p) f = let h : true ≡ false = f in cc
-
-    -- nor has an urgent one without the item
-    new_urgent : (n : NewOrder) → verdict first before (Urgent n) ≡ None → list_any (λ x. same_text g x.gtin) n.lines ≡ false → IsSame (Urgent n) → reserved first (done (Urgent n) ∷ before) o l ≡ reserved first before o l
-    new_urgent n ok e s =
-        elim (same_text o n.order) as (λ b. same_text o n.order ≡ b → reserved first (done (Urgent n) ∷ before) o l ≡ reserved first before o l) [
-          | true ↦ λ t.
-              let new : Placed = record { order = n.order; act = next_number before; customer = n.customer; lines = n.lines; urgent = true } in
-              let named : order_named (done (Urgent n) ∷ before) o ≡ Some new = ap (λ b. if b then Some new else order_named before o) t in
-              let none : filter (λ (x : OrderLine). same_text l.gtin x.gtin) n.lines ≡ [] = ap (λ (x : List ℕ). filter (λ (y : OrderLine). same_text x y.gtin) n.lines) (sym item) ∙ no_line n.lines e in
-              let nothing : needs (done (Urgent n) ∷ before) (item_postings first (done (Urgent n) ∷ before) l.gtin) l.gtin new ≡ 0 =
-              ap (λ (xs : List OrderLine). total (λ b. need (done (Urgent n) ∷ before) (item_postings first (done (Urgent n) ∷ before) l.gtin) b) (map (booking_of new) xs)) none in
-              let unknown : is_some (order_named before o) ≡ false = ap (λ (x : List ℕ). is_some (order_named before x)) (same_text_is o n.order t) ∙ (urgent_accepted first before n ok).new in
-              omega (arith, reserved_within_needs first (done (Urgent n) ∷ before) o l new named, nothing, unknown_is_unreserved first before o l (not_some (order_named before o) unknown))
-          | false ↦ λ t. by_plan (Urgent n) s ∙ ap (λ b. reserved_of (if b then Some (record { order = n.order; act = next_number before; customer = n.customer; lines = n.lines; urgent = true }) else order_named before o) (lot_known before l) (plan first before l.gtin)) t
+              let named : order_named (done c ∷ before) o ≡ Some new = orders ∙ ap (λ b. if b then Some new else order_named before o) t in
+              let none : filter (λ (x : OrderLine). same_text l.gtin x.gtin) new.lines ≡ [] = ap (λ (x : List ℕ). filter (λ (y : OrderLine). same_text x y.gtin) new.lines) (sym item) ∙ no_line new.lines e in
+              let nothing : needs (done c ∷ before) (item_postings first (done c ∷ before) l.gtin) l.gtin new ≡ 0 =
+              ap (λ (xs : List OrderLine). total (λ b. need (done c ∷ before) (item_postings first (done c ∷ before) l.gtin) b) (map (booking_of new) xs)) none in
+              let unknown : is_some (order_named before o) ≡ false = ap (λ (x : List ℕ). is_some (order_named before x)) (same_text_is o new.order t) ∙ fresh in
+              omega (arith, reserved_within_needs first (done c ∷ before) o l new named, nothing, unknown_is_unreserved first before o l (not_some (order_named before o) unknown))
+          | false ↦ λ t. by_plan c s ∙ (λ i. reserved_of ((orders ∙ ap (λ b. if b then Some new else order_named before o) t) i) (lot i) (plan first before l.gtin))
         ] refl
       where
         not_some : (p : Option Placed) → is_some p ≡ false → p ≡ None
@@ -345,8 +327,8 @@ module _ (first : ℤ) (key : Key) (before : List Act) (g : List ℕ) where
     reserved_after : (c : Command) → IsHistory first before → verdict first before c ≡ None → touches first (done c) before c g ≡ false → IsSame c → reserved first (done c ∷ before) o l ≡ reserved first before o l
     reserved_after (Receive r) h ok e s =
         by_plan (Receive r) s ∙ ap (λ k. reserved_of (order_named before o) k (plan first before l.gtin)) (known_same r (other_of r.lot l e (ap (same_text g) (sym item) ∙ same_text_refl g)))
-    reserved_after (Order n) h ok e s = new_order n ok e s
-    reserved_after (Urgent n) h ok e s = new_urgent n ok e s
+    reserved_after (Order n) h ok e s = new_order (Order n) (placed_by n false) refl refl (order_is_new first before (Order n) ok) e s
+    reserved_after (Urgent n) h ok e s = new_order (Urgent n) (placed_by n true) refl refl (order_is_new first before (Urgent n) ok) e s
     reserved_after c h ok e s = by_plan c s
 
 pub other_items_are_left_alone : OtherItemsAreLeftAlone

@@ -9,7 +9,7 @@ returns-in-Err-Foreign-clause-tells g c =
     let m = state g.S.Store c.half_rows.new.tx.conn.now in
     let b = state g.M.Store c.args.replayed.now.conn.now in
     subst (λ name. TellsAlike (SameHalf d c.args.part c.args.middle.now) o m b b (Err (Untyped name))) (sym c.table_name.ensures)
-    (half_untyped d c.args.part c.args.middle.now g.T.Compared.table_name g.met.T.Compared.compared_laws.called o m b (rw c.in-Err-Foreign.field-0-is at c.in-Err-Foreign.ensures.finds))
+    (half_untyped d c.args.part c.args.middle.now g.T.Entire.table_name g.met.T.Entire.compared_laws.called o m b (rw c.in-Err-Foreign.field-0-is at c.in-Err-Foreign.ensures.finds))
 
 pub returns-in-Err-Store-clause-tells : goal.returns-in-Err-Store-clause-tells
 returns-in-Err-Store-clause-tells g c =

@@ -13,5 +13,5 @@ returns-in-Ok-true-clause-tells g c =
     let e = state g.M.Store c.half_alike.new.replayed.conn.now in
     let f = state g.M.Store c.half_alike-in-Ok-true.new.replayed.conn.now in
     let r = c.half_alike-in-Ok-true.result in
-    halves_alike d g.met.T.Table.laws g.T.Compared.table_name g.met.T.Compared.compared_laws.alike middle o n b f r
+    halves_alike d g.met.T.Table.laws g.T.Entire.table_name g.met.T.Entire.compared_laws.alike middle o n b f r
     (both_alike (SameHalf d Lower middle) o m b e c.in-Ok-true.field-0 c.in-Ok-true.ensures.tells (SameHalf d Upper middle) n f r c.in-Ok-true.field-0-test c.half_alike-in-Ok-true.ensures.tells)

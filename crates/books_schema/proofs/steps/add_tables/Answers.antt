@@ -1,4 +1,4 @@
-use Rattle.books_schema.proofs.Words.{◌≡◌, ◌+◌, ◌<◌, ℕ, List, [], length, get_or, drop, ◌∷◌, Ok, refl, subst, ◌∙◌, arith, common_steps, State, HasCleanDisk, ExecutesInside, Schema, created, Trees, state, was_inside, keeps, kept_itself, kept_then, inside_itself, inside_then, table_at, IsGrown, AreMade, grown, TableLayout}
+use Rattle.books_schema.proofs.Words.{◌≡◌, inl, inr, sym, ◌+◌, ◌<◌, ℕ, List, [], length, get_or, drop, ◌∷◌, Ok, refl, subst, ◌∙◌, arith, common_steps, State, HasCleanDisk, ExecutesInside, Schema, created, Trees, state, was_inside, keeps, kept_itself, kept_then, inside_itself, inside_then, table_at, IsGrown, AreMade, grown, TableLayout}
 use Rattle.books_schema.proofs.GrowLemmas.{grows}
 use Rattle.books_schema.proofs.steps.add_tables.Goals as goal
 
@@ -25,12 +25,13 @@ loop-table-preserved g c =
       λ clean base first from made so_far.
           let at = before.3 (was clean) base first from made so_far in
           adds_next base first at.0 (grown from c.args.tables.now) c.args.tables.now c.loop-table.table-index _ mid new c.in_ok-execute.field-0 (omega arith) at.1 at.2 at.3 (one.runs clean (was_inside _ one.ended)),
+      λ clean. inr ((before.2 (was clean)).was_open (one.runs clean (was_inside _ one.ended)).1.was_open),
     )
 
 pub loop-table-init : goal.loop-table-init
 loop-table-init g c =
     let old = state g.S.Store c.args.tx.now.conn.now in
-    (refl, inside_itself old, λ clean. kept_itself old, λ clean base first from made so_far. (from, so_far, made, refl))
+    (refl, inside_itself old, λ clean. kept_itself old, λ clean base first from made so_far. (from, so_far, made, refl), λ clean. inl refl)
 
 pub returns-clause-done : goal.returns-clause-done
 returns-clause-done g c clean base first from made so_far =
@@ -60,3 +61,8 @@ returns-clause-kept g c = c.loop-table.invariant.2
 
 pub returns-clause-survives : goal.returns-clause-survives
 returns-clause-survives g c = c.loop-table.invariant.1
+
+pub returns-clause-was_open : goal.returns-clause-was_open
+returns-clause-was_open g c clean =
+    let none : drop c.loop-table.table-index c.args.tables.now ≡ [] = grind (arith, common_steps) in
+    elim (c.loop-table.invariant.4 clean) [ inl all ↦ inl (sym all ∙ none) | inr up ↦ inr up ]

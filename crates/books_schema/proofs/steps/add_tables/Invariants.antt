@@ -1,4 +1,4 @@
-use Rattle.books_schema.proofs.Words.{◌≡◌, drop, Schema, Trees, HasCleanDisk, Survives, KeepsCommit, state, IsGrown, AreMade, grown}
+use Rattle.books_schema.proofs.Words.{◌≡◌, ◌⊎◌, IsTrue, drop, Schema, Trees, HasCleanDisk, Survives, KeepsCommit, state, IsGrown, AreMade, grown}
 use Rattle.books_schema.proofs.steps.add_tables.Given as goal
 
 -- the tables that are left make of the schema now what all of them make of the first
@@ -9,3 +9,4 @@ invariant-loop-table g l =
     (l.tx.conn.ghost_name ≡ l.fn.tx.conn.ghost_name) × Survives old now (λ _. ⊥) × (HasCleanDisk now → KeepsCommit old now)
     × (HasCleanDisk now → (base : Trees) (first from : Schema) → AreMade from l.tables → IsGrown base first from old
     → (next : Schema) × IsGrown base first next now × AreMade next (drop l.table-index l.tables) × (grown next (drop l.table-index l.tables) ≡ grown from l.tables))
+    × (HasCleanDisk now → (drop l.table-index l.tables ≡ l.tables) ⊎ IsTrue old.is_open)

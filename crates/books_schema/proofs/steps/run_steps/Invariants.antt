@@ -1,4 +1,4 @@
-use Rattle.books_schema.proofs.Words.{◌≡◌, drop, Schema, Trees, HasCleanDisk, Survives, KeepsCommit, state, IsGrown, AreMade, grown, added_above}
+use Rattle.books_schema.proofs.Words.{◌≡◌, ◌⊎◌, IsTrue, drop, Schema, Trees, HasCleanDisk, Survives, KeepsCommit, state, IsGrown, AreMade, grown, added_above}
 use Rattle.books_schema.proofs.steps.run_steps.Given as goal
 
 -- the steps that are left make of the schema now what all of them make of the first
@@ -10,3 +10,4 @@ invariant-loop-step g l =
     × (HasCleanDisk now → (base : Trees) (first from : Schema) → AreMade from (added_above l.above l.steps) → IsGrown base first from old
     → (next : Schema) × IsGrown base first next now × AreMade next (added_above l.above (drop l.step-index l.steps))
     × (grown next (added_above l.above (drop l.step-index l.steps)) ≡ grown from (added_above l.above l.steps)))
+    × (HasCleanDisk now → (added_above l.above (drop l.step-index l.steps) ≡ added_above l.above l.steps) ⊎ IsTrue old.is_open)

@@ -1,4 +1,4 @@
-use Rattle.queries.proofs.Words.{◌≡◌, ℕ, List, subst, ◌∙◌, same_text, SqliteFailure, OutOfMemory, ItemKey, same_item, item_key, RecallKey, same_recall, recall_key, Each, AreLeast, items_of_lots, has_read, read_on, fails_first, fails_later, no_room_yet, and_known, known_told}
+use Rattle.queries.proofs.Words.{◌≡◌, ℕ, List, subst, ◌∙◌, same_text, SqliteFailure, OutOfMemory, ItemKey, same_item, item_key, LotKey, same_lot, recall_key, Each, AreLeast, items_of_lots, has_read, read_on, fails_first, fails_later, no_room_yet, and_known, known_told}
 use Rattle.table_words.specs.Found.{AreRows}
 use Rattle.queries.proofs.shown_bin.read_goods_of.Goals as goal
 
@@ -24,5 +24,5 @@ returns-clause-read g c =
     (λ t h. record {
       own = subst (λ (l : List (List ℕ)). Each (λ g found. AreRows {K = ItemKey} same_item item_key (λ k. same_text g k) t.item found) l c.in_ok-items.items.items) one h.0.0;
       asked = subst (λ (l : List (List ℕ)). AreLeast l t c.in_ok-least.least.items) two h.0.1;
-      recalled = subst (λ (l : List (List ℕ)). Each (λ g found. AreRows {K = RecallKey} same_recall recall_key (λ k. same_text g k.gtin) t.recall found) l c.in_ok-recalls.recalls.items) three h.1;
+      recalled = subst (λ (l : List (List ℕ)). Each (λ g found. AreRows {K = LotKey} same_lot recall_key (λ k. same_text g k.gtin) t.recall found) l c.in_ok-recalls.recalls.items) three h.1;
     })

@@ -1,4 +1,4 @@
-use Rattle.queries.proofs.Words.{◌≡◌, ℕ, List, subst, ◌∙◌, same_text, Tables, SqliteFailure, OutOfMemory, ItemKey, same_item, item_key, RecallKey, same_recall, recall_key, ReservedKey, same_reserved, reserved_key, KnowsRows, Each, AreLeast, items_of_lots, has_read, read_on, fails_first, fails_later, no_room_yet, unasked, and_known, known_told}
+use Rattle.queries.proofs.Words.{◌≡◌, ℕ, List, subst, ◌∙◌, same_text, SqliteFailure, OutOfMemory, ItemKey, same_item, item_key, LotKey, same_lot, recall_key, ReservedKey, same_reserved, reserved_key, Each, AreLeast, items_of_lots, has_read, read_on, fails_first, fails_later, no_room_yet, and_known, known_told}
 use Rattle.table_words.specs.Found.{AreRows}
 use Rattle.queries.proofs.shown_expiring.read_items_of.Goals as goal
 
@@ -25,11 +25,10 @@ returns-clause-read g c =
     let two : c.as_slice-2.result.now ≡ gtins = c.as_slice-2.ensures.value ∙ c.in_ok-gtins.ensures in
     let three : c.as_slice-3.result.now ≡ gtins = c.as_slice-3.ensures.value ∙ c.in_ok-gtins.ensures in
     let four : c.as_slice-4.result.now ≡ gtins = c.as_slice-4.ensures.value ∙ c.in_ok-gtins.ensures in
-    let after = λ (t : Tables). KnowsRows t c.seek_recalls.new.rows in
-    known_told (and_known (and_known (and_known c.in_ok-items.ensures.read c.in_ok-least.ensures.read) c.in_ok-recalls.ensures.read) (unasked after c.in_ok-reserved.ensures.read))
+    known_told (and_known (and_known (and_known c.in_ok-items.ensures.read c.in_ok-least.ensures.read) c.in_ok-recalls.ensures.read) c.in_ok-reserved.ensures.read)
     (λ t h. record {
       own = subst (λ (l : List (List ℕ)). Each (λ g found. AreRows {K = ItemKey} same_item item_key (λ k. same_text g k) t.item found) l c.in_ok-items.items.items) one h.0.0.0;
       asked = subst (λ (l : List (List ℕ)). AreLeast l t c.in_ok-least.least.items) two h.0.0.1;
-      recalled = subst (λ (l : List (List ℕ)). Each (λ g found. AreRows {K = RecallKey} same_recall recall_key (λ k. same_text g k.gtin) t.recall found) l c.in_ok-recalls.recalls.items) three h.0.1;
+      recalled = subst (λ (l : List (List ℕ)). Each (λ g found. AreRows {K = LotKey} same_lot recall_key (λ k. same_text g k.gtin) t.recall found) l c.in_ok-recalls.recalls.items) three h.0.1;
       taken = subst (λ (l : List (List ℕ)). Each (λ g found. AreRows {K = ReservedKey} same_reserved reserved_key (λ k. same_text g k.1.gtin) (λ k. t.reserved k.0 k.1) found) l c.in_ok-reserved.reserved.items) four h.1;
     })

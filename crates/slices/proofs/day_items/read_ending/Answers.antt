@@ -1,4 +1,4 @@
-use Rattle.slices.proofs.Words.{◌≡◌, ℕ, List, filter, subst, ap, ◌∙◌, same_text, SqliteFailure, OutOfMemory, RecallKey, same_recall, recall_key, is_ending, items_of_lots, not_recalled, Each}
+use Rattle.slices.proofs.Words.{◌≡◌, ℕ, List, filter, subst, ap, ◌∙◌, same_text, SqliteFailure, OutOfMemory, LotKey, same_lot, recall_key, is_ending, items_of_lots, not_recalled, Each}
 use Rattle.table_words.specs.Found.{AreRows}
 use Rattle.slices.proofs.ReadSteps.{has_read, read_on, and_then, so_told, fails_first, fails_later, no_room_left}
 use Rattle.slices.proofs.day_items.read_ending.Goals as goal
@@ -38,6 +38,6 @@ returns-clause-read g c =
       least = least;
       least_read = h.0.1;
       recalls = recalls;
-      recalls_read = subst (λ (l : List (List ℕ)). Each (λ g found. AreRows {K = RecallKey} same_recall recall_key (λ k. same_text g k.gtin) t.recall found) l recalls) gtins_is h.1;
+      recalls_read = subst (λ (l : List (List ℕ)). Each (λ g found. AreRows {K = LotKey} same_lot recall_key (λ k. same_text g k.gtin) t.recall found) l recalls) gtins_is h.1;
       lots = c.in_ok-not_recalled.ensures ∙ ap (λ l. not_recalled c.as_slice-6.result.now l) (c.as_slice-5.ensures.value ∙ ending_is) ∙ ap (λ l. not_recalled l (filter (is_ending old new least) all)) c.as_slice-6.ensures.value;
     })

@@ -4,9 +4,9 @@ use Rattle.rows_in_memory.proofs.known.KnownRows.forget.Goals as goal
 
 pub overflow_sub-self : goal.overflow_sub-self
 overflow_sub-self g c =
-    omega (arith, c.weight_of.ensures, c.args.self.now.weighs, list_gone _ c.args.self.now.rows c.remove.new.self c.in-Some.rows c.remove.ensures.entries (sym c.in-Some.is ∙ c.remove.ensures.value))
+    omega (arith, c.weight_of.ensures, c.args.self.now.weighs, list_gone _ c.args.self.now.rows.lists c.remove.new.self c.in-Some.rows c.remove.ensures.entries (sym c.in-Some.is ∙ c.remove.ensures.value))
 
 pub invariant_of-self : goal.invariant_of-self
 invariant_of-self g c = record {
-  weighs = omega (arith, c.weight_of.ensures, c.args.self.now.weighs, list_gone _ c.args.self.now.rows c.remove.new.self c.in-Some.rows c.remove.ensures.entries (sym c.in-Some.is ∙ c.remove.ensures.value));
+  weighs = omega (arith, c.weight_of.ensures, c.args.self.now.weighs, list_gone _ c.args.self.now.rows.lists c.remove.new.self c.in-Some.rows c.remove.ensures.entries (sym c.in-Some.is ∙ c.remove.ensures.value));
 }

@@ -9,7 +9,7 @@ overflow_sub-self g c =
       c.weight_of-more.ensures,
       c.weight_if.ensures,
       c.make_room.new.self.weighs,
-      list_came g.K.Ord.cmp g.met.K.Ord.total c.make_room.new.self.rows c.insert.new.self c.of.result c.args.rows c.in-Ok.before c.in-Ok.ensures.entries c.in-Ok.ensures.old c.insert.ensures.was_ordered,
+      list_came g.K.Ord.cmp g.met.K.Ord.total c.make_room.new.self.rows.lists c.insert.new.self c.of.result c.args.rows c.in-Ok.before c.in-Ok.ensures.entries c.in-Ok.ensures.old c.insert.ensures.was_ordered,
     )
 
 pub invariant_of-self : goal.invariant_of-self
@@ -19,6 +19,6 @@ invariant_of-self g c = record {
     c.weight_of-more.ensures,
     c.weight_if.ensures,
     c.make_room.new.self.weighs,
-    list_came g.K.Ord.cmp g.met.K.Ord.total c.make_room.new.self.rows c.insert.new.self c.of.result c.args.rows c.in-Ok.before c.in-Ok.ensures.entries c.in-Ok.ensures.old c.insert.ensures.was_ordered,
+    list_came g.K.Ord.cmp g.met.K.Ord.total c.make_room.new.self.rows.lists c.insert.new.self c.of.result c.args.rows c.in-Ok.before c.in-Ok.ensures.entries c.in-Ok.ensures.old c.insert.ensures.was_ordered,
   );
 }

@@ -1,5 +1,5 @@
 use Rattle.rows_in_memory.proofs.Words.{◌≡◌, ◌+◌, ◌∷◌, List, length, drop, sym, ap, subst, ◌∙◌, add-one, drop-cons, arith, drop-length, with_put}
-use Rattle.rows_in_memory.proofs.Maps.{Coming, coming_first, coming_next, all_came, forgotten}
+use Rattle.rows_in_memory.proofs.Maps.{Coming, coming_first, coming_next, all_came, changed_part, forgotten}
 use Rattle.rows_in_memory.proofs.known.KnownRows.put_all.Goals as goal
 
 pub loop-row-init : goal.loop-row-init
@@ -17,8 +17,10 @@ pub returns : goal.returns
 returns g c =
     let rows = c.args.rows.now in
     let end : c.loop-row.row-index ≡ length rows = omega (arith, c.loop-row-test.false, c.loop-row.auto.row-index-end) in
-    all_came g.K.Ord.cmp (λ r. g.K.KeyOf.key (g.R.Has.of_row r)) (with_put g.R.KeyedRow.same_row) rows c.args.self.now.rows c.loop-row.self.rows
-    (subst (λ (l : List _). Coming g.K.Ord.cmp (λ r. g.K.KeyOf.key (g.R.Has.of_row r)) (with_put g.R.KeyedRow.same_row) rows l c.args.self.now.rows c.loop-row.self.rows) (ap (λ n. drop n rows) end ∙ drop-length rows) c.loop-row.invariant)
+    changed_part g.K.Ord.cmp (λ r. g.K.KeyOf.key (g.R.Has.of_row r)) (with_put g.R.KeyedRow.same_row) rows c.args.self.now.rows c.loop-row.self.rows c.bound_whole.new.self.rows
+    (all_came g.K.Ord.cmp (λ r. g.K.KeyOf.key (g.R.Has.of_row r)) (with_put g.R.KeyedRow.same_row) rows c.args.self.now.rows c.loop-row.self.rows
+    (subst (λ (l : List _). Coming g.K.Ord.cmp (λ r. g.K.KeyOf.key (g.R.Has.of_row r)) (with_put g.R.KeyedRow.same_row) rows l c.args.self.now.rows c.loop-row.self.rows) (ap (λ n. drop n rows) end ∙ drop-length rows) c.loop-row.invariant))
+    c.bound_whole.ensures
 
 pub returns-then-rows-gt-FEW : goal.returns-then-rows-gt-FEW
 returns-then-rows-gt-FEW g c = forgotten g.K.Ord.cmp (λ r. g.K.KeyOf.key (g.R.Has.of_row r)) (with_put g.R.KeyedRow.same_row) c.args.rows.now c.args.self.now.rows c.forget_all.new.self.rows c.forget_all.ensures

@@ -110,11 +110,6 @@ returns-in-Err-clause-fault g c = either_told c.in-Err.fault c.from.result c.fro
 pub returns-in-Ok-settle_found-clause-open : goal.returns-in-Ok-settle_found-clause-open
 returns-in-Ok-settle_found-clause-open g c clean = c.in-Ok-settle_found.ensures.open clean
 
-pub returns-in-Ok-settle_found-clause-indexes : goal.returns-in-Ok-settle_found-clause-indexes
-returns-in-Ok-settle_found-clause-indexes g c clean =
-    let before : HasCleanDisk (state g.S.Store c.in-Ok.opened.0) = omega (arith, clean, c.settle_found.ensures.survives.clean) in
-    c.in-Ok-settle_found.ensures.indexes clean (c.in-Ok.ensures.ready before)
-
 pub invariant_of-result : goal.invariant_of-result
 invariant_of-result g c =
     let was = c.in-Ok.ensures in

@@ -1,5 +1,0 @@
-use Rattle.texts.proofs.Words.{◌≡◌, ◌+◌, ◌*◌, ◌^◌, ◌≤◌, drop, length, number_from}
-use Rattle.texts.proofs.field.written.Given as goal
-
-abbrev pub invariant-loop-c : goal.invariant-loop-c
-invariant-loop-c l = (number_from l.n (drop l.c-index l.digits) ≡ number_from 0 l.digits) × (l.n + 23 ≤ 23 * 10 ^ l.c-index) × (length l.digits ≤ 7)
