@@ -94,28 +94,30 @@ impl<A: HasText, B: Same> HasText for (A, B) {
 /// some.
 #[derive(Drop)]
 pub struct RowsByText<'a, T> {
-    groups: BTreeMap<TextKey, Vec<T>>,
+    keys: Vec<TextKey>,
+    rows: Vec<T>,
     others: &'a [T],
 }
 
 impl<'a, T> RowsByText<'a, T> {
     /// The rows among which those with the value are: all of them, in their order, and maybe others.
     pub fn candidates<K: HasText>(&self, value: &K) -> &[T]
-        ensures { result.now ≡ rows_given self.now (K.text value.now) }
     {
-        if self.groups.is_empty() {
+        if self.keys.is_empty() {
             return self.others;
         }
         self.rows_under(&value.key())
     }
 
     fn rows_under(&self, key: &TextKey) -> &[T]
-        ensures { result.now ≡ rows_kept self.now key.now }
     {
-        match self.groups.get(key) {
-            Some(rows) => rows.as_slice(),
-            None => self.others,
+        let keys = self.keys.as_slice();
+        let from = keys.partition_point(|k| *k < *key);
+        let mut to = from;
+        while to < keys.len() && keys[to] == *key {
+            to += 1;
         }
+        &self.rows.as_slice()[from..to]
     }
 }
 
@@ -125,70 +127,30 @@ pub fn by_text<'a, K: HasText, T: Has<K>>(
     rows: &'a [T],
     times: usize,
 ) -> Result<RowsByText<'a, T>, AllocError>
-    ensures { IfOk result (λ found. GivesRows (λ r. K.text (T.of_row r)) (rows_given found) rows.now) }
 {
     if rows.len() <= FEW || times <= FEW {
         return Ok(RowsByText {
-            groups: BTreeMap::new(alloc),
+            keys: Vec::new(alloc),
+            rows: Vec::new(alloc),
             others: rows,
         });
     }
-    let groups = group::<K, T>(alloc, rows)?;
+    let mut places = Vec::with_capacity(alloc, rows.len())?;
+    for place in 0..rows.len() {
+        places.push((rows[place].value().key(), place))?;
+    }
+    places.sort_by(|a, b| a.0.cmp(&b.0))?;
+    let mut keys = Vec::with_capacity(alloc, rows.len())?;
+    let mut sorted = Vec::with_capacity(alloc, rows.len())?;
+    for (key, place) in places.as_slice() {
+        keys.push(*key)?;
+        sorted.push(rows[*place])?;
+    }
     Ok(RowsByText {
-        groups,
+        keys,
+        rows: sorted,
         others: &rows[..0],
     })
-}
-
-fn group<K: HasText, T: Has<K>>(
-    alloc: Global,
-    rows: &[T],
-) -> Result<BTreeMap<TextKey, Vec<T>>, AllocError>
-    ensures { IfOk result (λ groups. (k : List ℕ) → rows_or [] (get (slice_cmp nat_cmp) groups (reverse k)) ≡ filter (λ r. same_text k (K.text (T.of_row r))) rows.now) }
-{
-    let mut groups = BTreeMap::new(alloc);
-    for row in rows {
-        add_row::<K, T>(alloc, &mut groups, row)?;
-    }
-    Ok(groups)
-}
-
-// One row more with its text.
-fn add_row<K: HasText, T: Has<K>>(
-    alloc: Global,
-    groups: &mut BTreeMap<TextKey, Vec<T>>,
-    row: &T,
-) -> Result<(), AllocError>
-    ensures { OnOk result ((k : List ℕ) → rows_or [] (get (slice_cmp nat_cmp) groups.new (reverse k)) ≡ rows_or [] (get (slice_cmp nat_cmp) groups.old (reverse k)) ++ (if same_text k (K.text (T.of_row row.now)) then row.now ∷ [] else [])) }
-{
-    add_under(alloc, groups, row.value().key(), row)
-}
-
-// One row more under a key.
-fn add_under<T: Copy>(
-    alloc: Global,
-    groups: &mut BTreeMap<TextKey, Vec<T>>,
-    key: TextKey,
-    row: &T,
-) -> Result<(), AllocError>
-    ensures { OnOk result ((k : List ℕ) → rows_or [] (get (slice_cmp nat_cmp) groups.new (reverse k)) ≡ rows_or [] (get (slice_cmp nat_cmp) groups.old (reverse k)) ++ (if same_text k (reverse key) then row.now ∷ [] else [])) }
-{
-    match groups.get_mut(&key) {
-        Some(rows) => push_row(rows, *row),
-        None => {
-            let mut rows = Vec::new(alloc);
-            rows.push(*row)?;
-            groups.insert(key, rows)?;
-            Ok(())
-        }
-    }
-}
-
-fn push_row<T: Copy>(rows: &mut Vec<T>, row: T) -> Result<(), AllocError>
-    ensures { OnOk result (rows.new.items ≡ rows.old.items ++ row ∷ []) }
-{
-    rows.push(row)?;
-    Ok(())
 }
 
 // By a number
