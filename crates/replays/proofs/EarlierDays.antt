@@ -55,7 +55,6 @@ module _ (first second : ℤ) where
     told_untold : (key : Key) (c : Command) → shipments first before ≡ [] → shipments second before ≡ [] → told_by (next_number before) c ≡ None
         → further first (record { key = key; command = c }) before c ≡ further second (record { key = key; command = c }) before c
     told_untold key (Count c) s t e = rw (mine, theirs) refl
-    told_untold key (Adjust a) s t e = refl
     told_untold key (Order o) s t e = rw (mine, theirs, lots_none) refl
     told_untold key (Urgent o) s t e = rw (mine, theirs, lots_none) refl
     told_untold key (Ship o) s t e = rw (s, t) refl

@@ -175,7 +175,7 @@ pub use Rattle.queries.specs.Asked.{Asking, IsKnownOf}
 pub use Rattle.queries.specs.ShownActs.{acts_shown}
 pub use Rattle.queries.specs.ShownNotice.{whole}
 pub use Rattle.queries.proofs.CardOrder.{card_lines_of}
-pub use Rattle.queries.proofs.ShipmentCards.{Stays, stays_posting, stays_returned, stays_written, stays_corrected, units_stay}
+pub use Rattle.queries.proofs.ShipmentCards.{Stays, stays_posted, units_stay}
 pub use Rattle.queries.proofs.ShipmentOrder.{acts_within}
 pub use Rattle.changes.specs.Written.{puts, drops, stage_emptied, emptied, table_written}
 unfoldable pub use Rattle.changes.specs.Written.{change_written, change_made}
