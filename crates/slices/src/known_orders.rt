@@ -10,6 +10,7 @@ use crate::known_lists::{seek_line, seek_orders};
 use crate::order_slices::{add_line, read_named};
 use crate::rows_known::RowsKnown;
 use commands::{LineRow, OrderRow};
+use row_rules::row_search::find_row;
 use rows_in_memory::OpenLines;
 use rows_in_memory::order_names::{orders_of_lines, other_names};
 use sqlite::{Alter, Transaction};
@@ -31,6 +32,13 @@ fn line_known<S: Alter>(
     let line = (*order, *gtin);
     if let Some(known) = rows.followed.lines_at.rows_of(&line) {
         return Ok(known.first().copied());
+    }
+    if let Some(known) = rows.followed.lines.rows_of(order) {
+        let found = find_row(known, &line);
+        let mut own = Vec::new(alloc);
+        add_line(&mut own, found)?;
+        rows.followed.lines_at.keep(&line, own);
+        return Ok(found);
     }
     let found = seek_line(alloc, tx, rows, &line)?;
     Ok(found.as_slice().first().copied())

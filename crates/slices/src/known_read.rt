@@ -9,9 +9,10 @@ ghost use Rattle.slices.specs.Slicing.{AreOpenLines, HoldsOf};
 
 use crate::knowing::{Bounds, Known};
 use crate::rows_known::RowsKnown;
-use crate::sought_rows::{read_rows, seek_both};
-use commands::{LineRow, UrgentRow};
-use rows_in_memory::OpenLines;
+use crate::seek_all_known;
+use crate::sought_rows::read_rows;
+use commands::{LineRow, OrderRow, UrgentRow};
+use rows_in_memory::{KnownRows, OpenLines};
 use rows_in_memory::order_names::orders_of;
 use rows_in_memory::urgent_rows::urgent_lines;
 use sqlite::{Alter, Transaction};
@@ -20,7 +21,7 @@ use table_words::error::TableFault;
 use tables::lines::Lines;
 use tables::orders::{Open, Orders};
 use tables::urgents::Urgents;
-use values::Name;
+use values::{Name, TextKey};
 
 /// The orders of lines, by their items.
 fn open_lines_of(alloc: Global, lines: &[LineRow]) -> Result<OpenLines, AllocError>
@@ -43,17 +44,35 @@ fn urgent_lines_of(
     open_lines_of(alloc, own.as_slice())
 }
 
+/// Each order by its name.
+fn keep_orders(
+    alloc: Global,
+    known: &mut KnownRows<Name, TextKey, OrderRow>,
+    rows: &[OrderRow],
+) -> Result<(), AllocError> {
+    for row in rows {
+        let mut own = Vec::with_capacity(alloc, 1)?;
+        own.push(*row)?;
+        known.keep(&row.order, own);
+    }
+    Ok(())
+}
+
 /// The open orders, by the items of their lines; and the urgent ones of them.
 fn read_open_orders<S: Alter>(
     alloc: Global,
     tx: &mut Transaction<'_, S>,
+    known: &mut RowsKnown,
 ) -> Result<(OpenLines, OpenLines), TableFault>
     ensures same_reference { tx.new.conn.ghost_name ≡ tx.old.conn.ghost_name }
     ensures read { IsRead (λ t known. AreOpenLines t known.0 known.1) (state S.Store tx.old.conn.now) (state S.Store tx.new.conn.now) result }
 {
     let orders = read_rows::<Orders, Open, S>(alloc, tx, &Open)?;
     let names = orders_of(alloc, orders.as_slice())?;
-    let (rows, urgents) = seek_both::<Name, Lines, Urgents, S>(alloc, tx, names.as_slice())?;
+    let followed = &mut known.followed;
+    let rows = seek_all_known::<Lines, Name, TextKey, S>(alloc, tx, &mut followed.lines, names.as_slice())?;
+    let urgents = seek_all_known::<Urgents, Name, TextKey, S>(alloc, tx, &mut followed.urgents, names.as_slice())?;
+    keep_orders(alloc, &mut followed.orders, orders.as_slice())?;
     let urgent = urgent_lines_of(alloc, rows.as_slice(), urgents.as_slice())?;
     let lines = open_lines_of(alloc, rows.as_slice())?;
     Ok((lines, urgent))
@@ -66,12 +85,13 @@ impl Known {
         ensures same_reference { tx.new.conn.ghost_name ≡ tx.old.conn.ghost_name }
         ensures read { IsRead (λ t known. HoldsOf known t) (state S.Store tx.old.conn.now) (state S.Store tx.new.conn.now) result }
     {
-        let (lines, urgent) = read_open_orders(alloc, tx)?;
+        let mut rows = RowsKnown::new(alloc);
+        let (lines, urgent) = read_open_orders(alloc, tx, &mut rows)?;
         Ok(Known {
             lines,
             urgent,
             bounds: Bounds::unknown(),
-            rows: RowsKnown::new(alloc),
+            rows,
         })
     }
 }

@@ -15,7 +15,7 @@ ghost use Rattle.slices.specs.Slicing.{AreGoods, AreKnownOrders, AreUrgentsFor, 
 use crate::day_items::affected_items;
 use crate::knowing::{Bounds, Known};
 use crate::known_followed::{known_meta, seek_staged, seek_stock};
-use crate::known_goods::{seek_bins, seek_items, seek_least, seek_lots, seek_recalls};
+use crate::known_goods::{seek_bins, seek_items, seek_least, seek_lots, seek_lots_of, seek_recalls};
 use crate::known_lists::seek_lines;
 use crate::known_orders::read_known_orders;
 use crate::one_table::{told_bins, told_items};
@@ -25,15 +25,16 @@ use crate::shipments::read_shipment;
 use crate::slice_rows::{Goods, Ordered, Shares, rows_read};
 use crate::urgent_orders::read_urgents;
 use commands::{Added, BinRow, Command, LotRow, MetaRow, StagedRow, StockRow};
+use rows_in_memory::KnownRows;
 use rows_in_memory::command_names::{bins_with, items_with, named_orders, whole_orders};
 use rows_in_memory::lots_held::lots_held;
 use rules::{Rows, Slice};
 use sqlite::{Alter, Transaction};
-use std::alloc::Global;
+use std::alloc::{AllocError, Global};
 use std::mem;
 use table_words::error::TableFault;
 use tables::staged::Staged;
-use values::{Gtin, Name};
+use values::{Gtin, LotId, LotKey, Name};
 
 /// The items that the command names, and those of the lines of the order that it takes whole.
 fn taken_items<S: Alter>(
@@ -97,6 +98,35 @@ fn read_bins<S: Alter>(
     seek_bins(alloc, tx, rows, names.as_slice())
 }
 
+/// The lots of the items are known one by one.
+fn know_lots<S: Alter>(
+    alloc: Global,
+    tx: &mut Transaction<'_, S>,
+    rows: &mut RowsKnown,
+    gtins: &[Gtin],
+) -> Result<(), TableFault> {
+    for gtin in gtins {
+        if rows.followed.lots_of.rows_of(gtin).is_none() {
+            let all = seek_lots_of(alloc, tx, rows, gtin)?;
+            keep_lots(alloc, &mut rows.followed.lots, all.as_slice())?;
+        }
+    }
+    Ok(())
+}
+
+fn keep_lots(
+    alloc: Global,
+    known: &mut KnownRows<LotId, LotKey, LotRow>,
+    rows: &[LotRow],
+) -> Result<(), AllocError> {
+    for row in rows {
+        let mut own = Vec::with_capacity(alloc, 1)?;
+        own.push(*row)?;
+        known.keep(&row.lot, own);
+    }
+    Ok(())
+}
+
 /// Of the items their own rows, what they ask for, their recalls and their stock; the lots that the command names or that
 /// have units; and the bins that it names or that hold units.
 fn read_goods<S: Alter>(
@@ -116,6 +146,9 @@ fn read_goods<S: Alter>(
     let least = seek_least(alloc, tx, rows, gtins)?;
     let recalls = seek_recalls(alloc, tx, rows, gtins)?;
     let stock = seek_stock(alloc, tx, rows, gtins)?;
+    if stock.as_slice().len() > 32 {
+        know_lots(alloc, tx, rows, gtins)?;
+    }
     let lots = read_lots(alloc, tx, rows, command, stock.as_slice(), staged)?;
     let bins = read_bins(alloc, tx, rows, command, stock.as_slice())?;
     Ok(Goods {
