@@ -6,5 +6,6 @@ use std::collections::BTreeMap;
 #[derive(Drop)]
 pub struct KnownLists<K: Ord, R> {
     pub lists: BTreeMap<K, Vec<R>>,
+    /// Whether they have all rows of their table.
     pub whole: bool,
 }

@@ -14,7 +14,7 @@ pub fn drop_from<R: KeyedRow>(rows: &mut Vec<R>, row: &R)
     rows.retain(|other| !other.is_same(row));
 }
 
-/// With the row in place of the one that has its key. Where it is new there is none.
+/// With the row in place of the one that has its key. Where the row is new there is none, and the list is not walked.
 pub fn put_in<R: KeyedRow>(rows: &mut Vec<R>, row: &R, is_new: bool) -> Result<(), AllocError>
     ensures { OnOk result (rows.new.items ≡ placed R.same_row is_new row.now rows.old.items) }
 {

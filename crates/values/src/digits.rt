@@ -9,7 +9,8 @@ pub fn are_digits(text: &[u8]) -> bool
     text.iter().all(|c| c.is_ascii_digit())
 }
 
-/// The number that at most nine decimal digits write.
+/// The number that at most nine decimal digits write, the first of them the highest: below 1,000,000,000, and 0 of none. That
+/// they are digits is not tested.
 pub fn written_number(digits: &[u8]) -> u64
     requires { length digits.now ≤ 9 }
     ensures value { result ≡ number_from 0 digits.now }
