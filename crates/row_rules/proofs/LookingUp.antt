@@ -1,6 +1,5 @@
 -- What is sought among the rows that are given for a text is what is sought among all rows; and how the rows come to stand with their texts and numbers.
-use Rattle.row_rules.proofs.Words.{◌≡◌, ℕ, ◌+◌, ◌<◌, Bool, true, false, cond, List, [], ◌∷◌, ◌++◌, length, get_or, take, refl, ap, sym, ◌∙◌, arith, ◌==◌, ◌||◌, if◌then◌else◌, map, flat_map, reverse, filter, find, Option, Some, None, is_some, Result, Ok, Err, OnOk, Vec, list_any, option_or, nat_cmp, unsigned_tied, slice_cmp, texts_ties, BTreeMap, get, is_at, lookup, take_more, find-append, exact_bytes, exact_unsigned, tells_apart, same_text, turned_same, total, same_text_turned, equal_turned, rows_or}
-use Rattle.row_rules.proofs.Walking.{append_none}
+use Rattle.row_rules.proofs.Words.{◌≡◌, ℕ, ◌+◌, ◌<◌, Bool, true, false, List, [], ◌∷◌, ◌++◌, length, get_or, take, refl, ap, sym, ◌∙◌, arith, ◌==◌, ◌||◌, if◌then◌else◌, map, flat_map, filter, find, Option, Some, None, is_some, list_any, option_or, nat_cmp, unsigned_tied, BTreeMap, get, is_at, take_more, find-append, exact_unsigned, tells_apart, total, equal_turned}
 
 -- A part of a list
 
@@ -96,35 +95,6 @@ gathered_kept f test (x ∷ xs) =
 pub gathered_agree : {X Y : Type 0} (f g : X → List Y) → ((x : X) → f x ≡ g x) → (xs : List X) → flat_map f xs ≡ flat_map g xs
 gathered_agree f g same [] = refl
 gathered_agree f g same (x ∷ xs) = λ i. same x i ++ gathered_agree f g same xs i
-
--- Rows by their texts
-
--- one row more with its text
-pub row_added : {X A : Type 0} (x : X) (k t : List ℕ) (v : Vec X A) (old new : BTreeMap (List ℕ) (Vec X A)) (there : Option (Vec X A)) → k ≡ reverse t → there ≡ get (slice_cmp nat_cmp) old k
-    → ((q : List ℕ) → get (slice_cmp nat_cmp) new q ≡ cond (is_at (slice_cmp nat_cmp k) q) (Some v) (get (slice_cmp nat_cmp) old q)) → v.items ≡ rows_or [] there ++ x ∷ []
-    → (o : List ℕ) → rows_or [] (get (slice_cmp nat_cmp) new (reverse o)) ≡ rows_or [] (get (slice_cmp nat_cmp) old (reverse o)) ++ (if same_text o t then x ∷ [] else [])
-row_added {X = X} x k t v old new there is found updates more o =
-    let q = reverse o in
-    let here : List X = rows_or [] (get (slice_cmp nat_cmp) old (reverse o)) in
-    ap (rows_or []) (updates q)
-    ∙ elim (is_at (slice_cmp nat_cmp k) q) as (λ b. is_at (slice_cmp nat_cmp k) q ≡ b → rows_or [] (cond b (Some v) (get (slice_cmp nat_cmp) old q)) ≡ rows_or [] (get (slice_cmp nat_cmp) old q) ++ (if b then x ∷ [] else [])) [
-      | true ↦ λ e. more ∙ ap (λ y. rows_or [] y ++ x ∷ []) (found ∙ ap (get (slice_cmp nat_cmp) old) (tells_apart exact_bytes k q e))
-      | false ↦ λ e. sym (append_none (rows_or [] (get (slice_cmp nat_cmp) old q)))
-    ] refl
-    ∙ ap (λ b. here ++ (if b then x ∷ [] else [])) (sym (same_text_turned q k ∙ texts_ties k q) ∙ ap (same_text q) is ∙ turned_same o t)
-
--- what follows of a result
-pub ok_then : {X E P Q : Type 0} (r : Result X E) → OnOk r P → (P → Q) → OnOk r Q
-ok_then (Ok x) p f = f p
-ok_then (Err e) p f = tt
-
--- where no rows stand under keys, the others are given
-pub others_given : {X A : Type 0} (others : List X) (m : BTreeMap (List ℕ) (Vec X A)) (k : List ℕ) → length m.entries ≡ 0 → others ≡ rows_or others (get (slice_cmp nat_cmp) m k)
-others_given {X = X} {A = A} others m k none = sym (ap (rows_or others) (nothing m.entries none))
-  where
-    nothing : (es : List (List ℕ × Vec X A)) → length es ≡ 0 → lookup (is_at (slice_cmp nat_cmp k)) es ≡ None
-    nothing [] e = refl
-    nothing (x ∷ xs) e = absurd (omega arith)
 
 -- Rows by their numbers
 

@@ -4,21 +4,20 @@ pub use Rattle.std.specs.BTreeSet.{BTreeSet, contains}
 pub use Rattle.std.specs.Cmp.{unsigned_tied}
 pub use Rattle.std.specs.Cmp.Lexicographic.{slice_cmp, texts_ties}
 pub use Rattle.std.specs.List.{list_any, cons_option}
-pub use Rattle.std.specs.List.Sorted.{IsSortedBy, IsSortedByKey, IsStableBy, IsStableByKey, ties}
-pub use Rattle.std.specs.Map.{lookup}
-pub use Rattle.std.specs.Option.{option_or, option_copied_mut}
+pub use Rattle.std.specs.List.Sorted.{IsSorted, IsSortedBy, IsSortedByKey, IsStableBy, IsStableByKey, ties}
+pub use Rattle.std.specs.Option.{option_or}
 pub use Rattle.std.specs.Ordering.{nat_cmp, ordering_then, is_eq, is_lt, int_cmp}
-pub use Rattle.std.specs.Prelude.{◌||◌, Some, if◌then◌else◌, ◌==◌, map, flat_map, find, Result, Ok, Err, IfOk, Vec, ℤ, int_lt, nat_lt, Option, None, is_some, OnOk, decimal, pos, ◌+ℤ◌}
+pub use Rattle.std.specs.Prelude.{◌||◌, Some, if◌then◌else◌, ◌==◌, map, flat_map, find, Result, Ok, Err, IfOk, Vec, ℤ, int_lt, nat_lt, Option, None, is_some, decimal, pos, ◌+ℤ◌}
 pub use Rattle.std.specs.declared.cmp.Ordering.{Ordering}
 pub use Rattle.std.specs.declared.cmp.Ordering.TheVariants.{Less, Equal, Greater}
 pub use Rattle.std.proofs.Common.{◌≡◌, ℕ, ◌≤◌, List, ap, sym, subst, ◌∙◌, arith, Bool, true, false, ◌&&◌, not, refl, ◌+◌, ◌<◌, min, length, get_or, drop, ◌-◌, [], ◌∷◌, ◌++◌, append_assoc, filter, zero, suc, take, add-one, cond, reverse, rules}
 pub use Rattle.std.proofs.Math.Seq.{drop-length}
 pub use Rattle.std.proofs.lemmas.Int.{ints}
-pub use Rattle.std.proofs.lemmas.List.{take_more, take-append-drop, take_rest, reverse-reverse}
+pub use Rattle.std.proofs.lemmas.List.{take_more, take-append-drop, take_rest}
 pub use Rattle.std.proofs.lemmas.List.Elements.{filter_agree, filter-append}
 pub use Rattle.std.proofs.lemmas.List.Folds.{find-append, list_any-append}
 pub use Rattle.std.proofs.lemmas.List.Sorted.{answers_always}
-pub use Rattle.std.proofs.lemmas.Map.Lookups.{exact_bytes, exact_unsigned}
+pub use Rattle.std.proofs.lemmas.Map.Lookups.{exact_unsigned}
 pub use Rattle.std.proofs.lemmas.Map.Views.{tells_apart}
 pub use Rattle.std.proofs.lemmas.Result.{IfOk-weaker}
 pub use Rattle.values.specs.Values.{same_text}
@@ -56,7 +55,7 @@ pub use Rattle.machine.proofs.Tests.{and_both, and_first_false, same_text_turned
 pub use Rattle.row_rules.specs.Apart.{RowKey, row_key, row_cmp, HasRows}
 pub use Rattle.row_rules.specs.Between.{replanned_between}
 pub use Rattle.row_rules.specs.Indexed.{demands_of, supplies_of, demands_told, supplies_told}
-pub use Rattle.row_rules.specs.LookUps.{IsOrder, first_before, IsInOrder, rows_or, rows_named, GivesFirst, rows_given, row_given}
+pub use Rattle.row_rules.specs.LookUps.{IsOrder, first_before, IsInOrder, rows_named, GivesFirst, rows_given, row_given}
 pub use Rattle.row_rules.specs.Plans.{demands_within, supplies_within, plan_within, demand_seen, is_earlier, is_urgent_seen, inserted, demands_seen, is_store_found, supplies_seen, is_usable, in_store_seen, has_qty, rows_to_put, rows_to_drop, goes_first, named_rows, named_row}
 pub use Rattle.row_rules.specs.Replanning.{first_as_one, rows_behind, item_demands, replanned_rows, replanned_from, same_row, rows_apart, item_supplies, shares_changed}
 pub use Rattle.row_rules.specs.Seen.{CAP, capped}

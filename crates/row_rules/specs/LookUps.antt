@@ -1,27 +1,30 @@
 -- What rows that are found by a text or by a number of theirs give.
-use Rattle.std.specs.Prelude.{◌≡◌, ℕ, ◌==◌, Bool, true, false, not, List, [], ◌∷◌, reverse, filter, find, Option, Some, None, Vec}
+use Rattle.std.specs.Prelude.{◌≡◌, ℕ, ◌==◌, Bool, true, false, List, [], ◌∷◌, reverse, map, flat_map, take, drop, filter, find, Option}
 use Rattle.std.specs.List.{cons_option}
 use Rattle.std.specs.Option.{option_or}
 use Rattle.std.specs.Ordering.{nat_cmp}
-use Rattle.std.specs.Cmp.Lexicographic.{slice_cmp}
 use Rattle.std.specs.BTreeMap.{get}
 use Rattle.row_rules.specs.Words.{same_text, Row, OrderRow, LotRow, ReservedRow}
 use Rattle.row_rules.specs.Plans.{named_row}
 use Rattle.row_rules.specs.declared.row_index.RowsByText.{RowsByText}
 use Rattle.row_rules.specs.declared.row_index.RowsByNumber.{RowsByNumber}
 
--- the rows that are found, or others where none are
-abbrev pub rows_or : {X A : Type 0} → List X → Option (Vec X A) → List X
-rows_or others None = others
-rows_or others (Some rows) = rows.items
+-- the rows beside a key
+abbrev pub rows_at : {X : Type 0} → List (List ℕ × X) → List ℕ → List X
+rows_at pairs key = map (λ p. p.1) (filter (λ p. same_text key p.0) pairs)
 
--- the rows that stand under a key
-abbrev pub rows_kept : {X : Type 0} → RowsByText X → List ℕ → List X
-rows_kept found key = rows_or found.others.now (get (slice_cmp nat_cmp) found.groups key)
+-- the rows at these places, each beside the key of its place
+abbrev pub rows_placed : {X : Type 0} → List X → List (List ℕ × ℕ) → List (List ℕ × X)
+rows_placed rows places = flat_map (λ p. map (λ r. (p.0, r)) (take 1 (drop p.1 rows))) places
+
+-- the rows beside a key, or others where no rows stand beside keys
+abbrev pub rows_or : {X : Type 0} → List X → List (List ℕ × X) → List ℕ → List X
+rows_or others [] key = others
+rows_or others (p ∷ ps) key = rows_at (p ∷ ps) key
 
 -- the rows that are given for a text: its key is the text from the last character to the first
 abbrev pub rows_given : {X : Type 0} → RowsByText X → List ℕ → List X
-rows_given found k = rows_kept found (reverse k)
+rows_given found k = rows_or found.others.now found.sorted (reverse k)
 
 -- the row that is given for a number
 abbrev pub row_given : {X : Type 0} → (X → ℕ) → RowsByNumber X → ℕ → Option X

@@ -23,6 +23,7 @@ pub mod row_search;
 pub mod rows_by_key;
 pub mod same;
 mod slice;
+mod sorted_rows;
 pub mod stages;
 pub mod status;
 pub mod stock;

@@ -1,16 +1,16 @@
 //! Rows that are found by a text or by a number of theirs, without a walk over all of them for each
 //! that is sought.
 
-ghost use Rattle.std.specs.Prelude.{◌≡◌, ℕ, List, ◌==◌, [], ◌∷◌, ◌++◌, reverse, filter, find, if◌then◌else◌, Some, None, IfOk, OnOk};
+ghost use Rattle.std.specs.Prelude.{◌≡◌, ℕ, ◌==◌, ◌<◌, length, reverse, map, find, if◌then◌else◌, Some, None, IfOk, OnOk};
+ghost use Rattle.std.specs.List.{All};
 ghost use Rattle.std.specs.Option.{option_or};
 ghost use Rattle.std.specs.Ordering.{nat_cmp};
-ghost use Rattle.std.specs.Cmp.Lexicographic.{slice_cmp};
 ghost use Rattle.std.specs.BTreeMap.{get};
-ghost use Rattle.values.specs.Values.{same_text};
-ghost use Rattle.row_rules.specs.LookUps.{rows_or, rows_kept, rows_given, row_given, GivesRows, GivesFirst};
+ghost use Rattle.row_rules.specs.LookUps.{rows_placed, rows_given, row_given, GivesRows, GivesFirst};
 
 use crate::having::Has;
 use crate::same::Same;
+use crate::sorted_rows::{SortedRows, sorted_rows};
 use commands::{LotRow, OrderRow};
 use std::alloc::{AllocError, Global};
 use std::collections::BTreeMap;
@@ -90,11 +90,11 @@ impl<A: HasText, B: Same> HasText for (A, B) {
     }
 }
 
-/// Rows by the text of something that they have. Where no rows stand with a text, the others may have
-/// some.
+/// Rows by the text of something that they have: in the order of their keys, or, where none are, the
+/// others as they came.
 #[derive(Drop)]
 pub struct RowsByText<'a, T> {
-    groups: BTreeMap<TextKey, Vec<T>>,
+    sorted: SortedRows<T>,
     others: &'a [T],
 }
 
@@ -103,19 +103,10 @@ impl<'a, T> RowsByText<'a, T> {
     pub fn candidates<K: HasText>(&self, value: &K) -> &[T]
         ensures { result.now ≡ rows_given self.now (K.text value.now) }
     {
-        if self.groups.is_empty() {
+        if self.sorted.is_empty() {
             return self.others;
         }
-        self.rows_under(&value.key())
-    }
-
-    fn rows_under(&self, key: &TextKey) -> &[T]
-        ensures { result.now ≡ rows_kept self.now key.now }
-    {
-        match self.groups.get(key) {
-            Some(rows) => rows.as_slice(),
-            None => self.others,
-        }
+        self.sorted.rows_of(&value.key())
     }
 }
 
@@ -129,66 +120,32 @@ pub fn by_text<'a, K: HasText, T: Has<K>>(
 {
     if rows.len() <= FEW || times <= FEW {
         return Ok(RowsByText {
-            groups: BTreeMap::new(alloc),
+            sorted: SortedRows::new(alloc),
             others: rows,
         });
     }
-    let groups = group::<K, T>(alloc, rows)?;
+    let mut places = places_by_text::<K, T>(alloc, rows)?;
+    let sorted = sorted_rows(alloc, &mut places, rows)?;
     Ok(RowsByText {
-        groups,
+        sorted,
         others: &rows[..0],
     })
 }
 
-fn group<K: HasText, T: Has<K>>(
+// The places of the rows, each beside the key of its row's text.
+fn places_by_text<K: HasText, T: Has<K>>(
     alloc: Global,
     rows: &[T],
-) -> Result<BTreeMap<TextKey, Vec<T>>, AllocError>
-    ensures { IfOk result (λ groups. (k : List ℕ) → rows_or [] (get (slice_cmp nat_cmp) groups (reverse k)) ≡ filter (λ r. same_text k (K.text (T.of_row r))) rows.now) }
+) -> Result<Vec<(TextKey, usize)>, AllocError>
+    ensures within { IfOk result (λ places. All (λ p. p.1 < length rows.now) places.items) }
+    ensures rows { IfOk result (λ places. rows_placed rows.now places.items ≡ map (λ r. (reverse (K.text (T.of_row r)), r)) rows.now) }
 {
-    let mut groups = BTreeMap::new(alloc);
+    let mut places = Vec::with_capacity(alloc, rows.len())?;
     for row in rows {
-        add_row::<K, T>(alloc, &mut groups, row)?;
+        let place = places.len();
+        places.push((row.value().key(), place))?;
     }
-    Ok(groups)
-}
-
-// One row more with its text.
-fn add_row<K: HasText, T: Has<K>>(
-    alloc: Global,
-    groups: &mut BTreeMap<TextKey, Vec<T>>,
-    row: &T,
-) -> Result<(), AllocError>
-    ensures { OnOk result ((k : List ℕ) → rows_or [] (get (slice_cmp nat_cmp) groups.new (reverse k)) ≡ rows_or [] (get (slice_cmp nat_cmp) groups.old (reverse k)) ++ (if same_text k (K.text (T.of_row row.now)) then row.now ∷ [] else [])) }
-{
-    add_under(alloc, groups, row.value().key(), row)
-}
-
-// One row more under a key.
-fn add_under<T: Copy>(
-    alloc: Global,
-    groups: &mut BTreeMap<TextKey, Vec<T>>,
-    key: TextKey,
-    row: &T,
-) -> Result<(), AllocError>
-    ensures { OnOk result ((k : List ℕ) → rows_or [] (get (slice_cmp nat_cmp) groups.new (reverse k)) ≡ rows_or [] (get (slice_cmp nat_cmp) groups.old (reverse k)) ++ (if same_text k (reverse key) then row.now ∷ [] else [])) }
-{
-    match groups.get_mut(&key) {
-        Some(rows) => push_row(rows, *row),
-        None => {
-            let mut rows = Vec::new(alloc);
-            rows.push(*row)?;
-            groups.insert(key, rows)?;
-            Ok(())
-        }
-    }
-}
-
-fn push_row<T: Copy>(rows: &mut Vec<T>, row: T) -> Result<(), AllocError>
-    ensures { OnOk result (rows.new.items ≡ rows.old.items ++ row ∷ []) }
-{
-    rows.push(row)?;
-    Ok(())
+    Ok(places)
 }
 
 // By a number

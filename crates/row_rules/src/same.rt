@@ -49,13 +49,14 @@ impl Same for Name {
     }
 }
 
+// The lots are compared first, since mostly they are of one item.
 impl Same for LotId {
     ghost use Rattle.machine.specs.Postings.{is_lot};
 
     ghost same = { is_lot };
 
     fn is_same(&self, other: &Self) -> bool {
-        self.gtin.is_same(&other.gtin) && self.lot.is_same(&other.lot)
+        self.lot.is_same(&other.lot) && self.gtin.is_same(&other.gtin)
     }
 }
 

@@ -1,3 +1,4 @@
 pub mod Padding
 pub mod DigitTexts
 pub mod Turned
+pub mod Packing

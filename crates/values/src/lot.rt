@@ -30,10 +30,33 @@ impl Model for Lot {
 }
 
 /// A lot of an item.
-#[derive(Clone, Copy, PartialEq, Eq, Debug)]
+#[derive(Clone, Copy, Debug)]
 pub struct LotId {
     pub gtin: Gtin,
     pub lot: Lot,
+}
+
+impl PartialEq for LotId {
+    ghost use Rattle.std.specs.Prelude.{◌&&◌};
+    ghost use Rattle.std.specs.Str.{bytes_eq};
+    ghost use Rattle.std.proofs.Common.{rules};
+    ghost use Rattle.std.specs.Cmp.Rules.{comparing};
+
+    ghost eq = { λ a b. bytes_eq a.gtin b.gtin && bytes_eq a.lot b.lot };
+
+    ghost laws = { Prim.search (comparing, rules) };
+
+    // Mostly lots of one item are compared.
+    fn eq(&self, other: &Self) -> bool {
+        self.lot == other.lot && self.gtin == other.gtin
+    }
+}
+
+impl Eq for LotId {
+    ghost use Rattle.std.proofs.Common.{rules};
+    ghost use Rattle.std.specs.Cmp.Rules.{comparing};
+
+    ghost laws = { Prim.search (comparing, rules) };
 }
 
 impl Lot {
