@@ -1,5 +1,5 @@
 -- Names with one more and without one.
-use Rattle.rows_in_memory.proofs.Words.{◌≡◌, ℕ, Bool, true, false, not, ◌&&◌, List, [], ◌∷◌, ◌++◌, filter, refl, ap, sym, subst, ◌∙◌, ◌||◌, if◌then◌else◌, list_any, same_text, orders_at, holds, are_apart, with_order, without_order, ChangesAt, IsSame, Gains, Loses, same_text_is, same_text_turned}
+use Rattle.rows_in_memory.proofs.Words.{◌≡◌, ℕ, Bool, true, false, not, ◌&&◌, List, [], ◌∷◌, ◌++◌, filter, refl, ap, sym, subst, ◌∙◌, ◌||◌, if◌then◌else◌, list_any, Result, Ok, Err, OnOk, OnErr, same_text, orders_at, holds, are_apart, with_order, without_order, ChangesAt, IsSame, Gains, Loses, same_text_is, same_text_turned}
 use Rattle.rows_in_memory.specs.OpenLines.{is_among}
 use Rattle.rows_in_memory.proofs.Truths.{and_both, and_true, or_none, or_false, and_false, not_true}
 
@@ -29,12 +29,17 @@ apart_more x (n ∷ names) e h =
     let none : is_among (names ++ x ∷ []) n ≡ false = among_more names x n ∙ ap (λ b. b || same_text n x) (not_true (is_among names n) rest.0) ∙ same_text_turned n x ∙ two.0 in
     and_true _ _ (ap not none) (apart_more x names two.1 rest.1)
 
-pub apart_with : (x : List ℕ) (names : List (List ℕ)) → are_apart names ≡ true → are_apart (with_order x names) ≡ true
+apart_with : (x : List ℕ) (names : List (List ℕ)) → are_apart names ≡ true → are_apart (with_order x names) ≡ true
 apart_with x names h = elim (is_among names x) as (λ b. is_among names x ≡ b → are_apart (if b then names else names ++ x ∷ []) ≡ true) [ true ↦ λ e. h | false ↦ λ e. apart_more x names e h ] refl
+
+-- names with one more, or as they were
+pub added_apart : {X E : Type 0} (r : Result X E) (o : List ℕ) (old new : List (List ℕ)) → OnOk r (new ≡ with_order o old) → OnErr r (new ≡ old) → are_apart old ≡ true → are_apart new ≡ true
+added_apart (Ok x) o old new added same h = ap are_apart added ∙ apart_with o old h
+added_apart (Err e) o old new added same h = ap are_apart same ∙ h
 
 -- One less
 
-among_without : (x : List ℕ) (names : List (List ℕ)) (y : List ℕ) → is_among (without_order x names) y ≡ is_among names y && not (same_text y x)
+pub among_without : (x : List ℕ) (names : List (List ℕ)) (y : List ℕ) → is_among (without_order x names) y ≡ is_among names y && not (same_text y x)
 among_without x [] y = refl
 among_without x (n ∷ names) y =
     elim (same_text x n) as (λ b. same_text x n ≡ b → is_among (if not b then n ∷ without_order x names else without_order x names) y ≡ is_among (n ∷ names) y && not (same_text y x)) [
@@ -56,6 +61,13 @@ among_without x (n ∷ names) y =
     stays true b true f = absurd (f refl refl)
     stays true b false f = refl
     stays false b c f = refl
+
+-- a name that is not there is not missed
+pub without_none : (x : List ℕ) (names : List (List ℕ)) → is_among names x ≡ false → without_order x names ≡ names
+without_none x [] e = refl
+without_none x (n ∷ names) e =
+    let two = or_none (same_text x n) (is_among names x) e in
+    ap (λ b. if not b then n ∷ without_order x names else without_order x names) two.0 ∙ ap (λ l. n ∷ l) (without_none x names two.1)
 
 any_kept : (keep test : List ℕ → Bool) (names : List (List ℕ)) → list_any test names ≡ false → list_any test (filter keep names) ≡ false
 any_kept keep test [] e = refl

@@ -6,10 +6,9 @@ pub use Rattle.std.specs.Cmp.Lexicographic.{slice_cmp, texts_ties}
 pub use Rattle.std.specs.List.{list_any, sum_by}
 pub use Rattle.std.specs.Map.{lookup, set_value, remove_entry, values_of}
 pub use Rattle.std.specs.Option.{option_map, unwrap_or, option_to_list, option_copied_mut, option_copied}
-pub use Rattle.std.specs.Ordering.{is_eq, nat_cmp, match_ordering}
+pub use Rattle.std.specs.Ordering.{is_eq, nat_cmp}
 pub use Rattle.std.specs.Prelude.{◌||◌, if◌then◌else◌, Option, Some, None, IfSome, reverse, Result, Ok, Err, OnOk, OnErr, is_ok, is_err}
 pub use Rattle.std.specs.declared.cmp.Ordering.{Ordering}
-pub use Rattle.std.specs.declared.cmp.Ordering.TheVariants.{Less, Equal, Greater}
 pub use Rattle.std.proofs.Common.{append-nil, append_assoc, ◌≡◌, ℕ, ◌&&◌, not, List, [], filter, Bool, true, false, ◌∷◌, ◌++◌, refl, ap, sym, subst, ◌∙◌, cond, ◌⊎◌, inl, inr, map, Vec, Global, ◌+◌, ◌≤◌, length, arith, drop, add-one, drop-cons, rules}
 pub use Rattle.std.proofs.Math.Seq.{drop-length}
 pub use Rattle.std.proofs.lemmas.Fn.{filter_same}
@@ -20,7 +19,6 @@ pub use Rattle.std.proofs.lemmas.Map.Entries.{sum_by-set_value, sum_by-remove_en
 pub use Rattle.std.proofs.lemmas.Map.Lookups.{exact_bytes}
 pub use Rattle.std.proofs.lemmas.Map.Views.{tells_apart}
 pub use Rattle.values.specs.Values.{same_text}
-pub use Rattle.values.specs.declared.name.Name.{Name}
 pub use Rattle.values.proofs.Turned.{same_text_is, turned_same, turned_across, same_text_turned}
 pub use Rattle.commands.specs.Names.{names_of}
 pub use Rattle.commands.specs.declared.command.OrderLine.{OrderLine}
@@ -39,5 +37,6 @@ pub use Rattle.row_rules.proofs.Making.{same_items}
 pub use Rattle.row_rules.proofs.Walking.{IsKept}
 pub use Rattle.rows_in_memory.specs.Keys.{has_key, with_key, with_keys, AreKeyed}
 pub use Rattle.rows_in_memory.specs.KnownRows.{RowMap, rows_in, rows_at, KnowsAll, placed, KnowsNone, LearnsAt, ForgetsBy, Remembers, IsPart, ForgetsAt, ChangesBy, each_changed, list_weight, map_weight, without_row, with_put}
-pub use Rattle.rows_in_memory.specs.OpenLines.{orders_at, AreApart, are_apart, with_order, without_order, ChangesAt, IsSame, holds, Gains, Loses, Entries, Keeps, all_names, has_line_row, has_closed_row, is_closed_state}
+pub use Rattle.rows_in_memory.specs.NameOrder.{names_told}
+pub use Rattle.rows_in_memory.specs.OpenLines.{orders_at, are_apart, with_order, without_order, ChangesAt, IsSame, holds, Gains, Loses, Entries, Keeps, all_names, has_line_row, has_closed_row, is_closed_state}
 pub use Rattle.rows_in_memory.specs.Parts.{is_ending, with_name, with_names, with_some, items_of_lots, has_line_in, with_lines, is_among, has_urgent_row, urgent_lines}

@@ -115,7 +115,7 @@ pub fn named_orders(alloc: Global, command: &Command) -> Result<Vec<Name>, Alloc
 /// One name more, where there is one and it is new.
 fn add_some(list: &mut NameList, name: Option<Name>) -> Result<(), AllocError>
     ensures added { OnOk result (AreNamesKeyed list.old.keys list.old.values.items → list.new.values.items ≡ with_some name list.old.values.items) }
-    ensures keyed { OnOk result (AreNamesKeyed list.old.keys list.old.values.items → AreNamesKeyed list.new.keys list.new.values.items) }
+    ensures keyed { AreNamesKeyed list.old.keys list.old.values.items → AreNamesKeyed list.new.keys list.new.values.items }
 {
     match name {
         Some(name) => list.add(name),

@@ -1,6 +1,6 @@
 //! What rows have, each once, however many rows have it.
 
-ghost use Rattle.std.specs.Prelude.{◌≡◌, [], ◌∷◌, OnOk, IfOk};
+ghost use Rattle.std.specs.Prelude.{◌≡◌, [], ◌∷◌, OnOk, OnErr, IfOk};
 ghost use Rattle.rows_in_memory.specs.Keys.{with_key, with_keys, AreKeyed};
 
 use row_rules::having::Has;
@@ -53,16 +53,17 @@ impl<T: Copy, K: KeyOf<T>> KeyList<T, K> {
         Ok(list)
     }
 
-    /// One value more, if it is new.
+    /// One value more, if it is new; for want of memory the values stay as they were.
     pub fn add(&mut self, value: T) -> Result<(), AllocError>
         ensures added { OnOk result (AreKeyed K.cmp K.key K.same self.old.keys self.old.values.items → self.new.values.items ≡ with_key K.same value self.old.values.items) }
-        ensures keyed { OnOk result (AreKeyed K.cmp K.key K.same self.old.keys self.old.values.items → AreKeyed K.cmp K.key K.same self.new.keys self.new.values.items) }
+        ensures refused { OnErr result (self.new.values.items ≡ self.old.values.items) }
+        ensures keyed { AreKeyed K.cmp K.key K.same self.old.keys self.old.values.items → AreKeyed K.cmp K.key K.same self.new.keys self.new.values.items }
     {
+        self.values.reserve(1)?;
         let is_new = self.keys.insert(K::of(&value))?;
-        if !is_new {
-            return Ok(());
+        if is_new {
+            self.values.push_reserved(value);
         }
-        self.values.push(value)?;
         Ok(())
     }
 

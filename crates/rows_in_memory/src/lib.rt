@@ -16,6 +16,7 @@ mod lot_list;
 pub mod lot_names;
 pub mod lots_held;
 mod name_list;
+mod name_set;
 pub mod order_names;
 pub mod order_rows;
 pub mod urgent_rows;

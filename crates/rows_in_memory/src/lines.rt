@@ -4,6 +4,7 @@ ghost use Rattle.std.specs.Prelude.{◌≡◌, ◌&&◌, true, [], OnOk, OnErr, 
 ghost use Rattle.values.specs.Values.{same_text};
 ghost use Rattle.rows_in_memory.specs.OpenLines.{all_names, orders_at, are_apart, with_order, without_order, ChangesAt, IsSame, Gains, Loses, Keeps, has_line_row, is_closed_state, has_closed_row};
 
+use crate::name_set::NameSet;
 use commands::{LineRow, OrderRow, OrderState};
 use std::alloc::{AllocError, Global};
 use std::collections::BTreeMap;
@@ -14,19 +15,17 @@ use values::{Gtin, Name, TextKey};
 /// order that is closed, or is none, may stand here too.
 #[derive(Drop)]
 pub struct OpenLines {
-    orders: BTreeMap<TextKey, Vec<Name>>,
+    orders: BTreeMap<TextKey, NameSet>,
     alloc: Global,
 }
 
 impl Model for OpenLines {
     ghost use Rattle.std.specs.Prelude.{map, reverse};
-    ghost use Rattle.rows_in_memory.specs.OpenLines.{Entries, AreApart};
+    ghost use Rattle.rows_in_memory.specs.OpenLines.{Entries};
 
     ghost Value = { Entries };
 
-    ghost view = { λ s. map (λ e. (reverse e.0, e.1.items)) s.orders.entries };
-
-    ghost invariant = { λ s. AreApart (map (λ e. (reverse e.0, e.1.items)) s.orders.entries) };
+    ghost view = { λ s. map (λ e. (reverse e.0, e.1)) s.orders.entries };
 }
 
 fn is_closed(state: OrderState) -> bool
@@ -36,25 +35,6 @@ fn is_closed(state: OrderState) -> bool
         OrderState::Open => false,
         OrderState::Done | OrderState::Cancelled => true,
     }
-}
-
-/// One name more, if it is new.
-fn add_name(names: &mut Vec<Name>, name: Name) -> Result<(), AllocError>
-    ensures added { OnOk result (names.new.items ≡ with_order name names.old.items) }
-    ensures refused { OnErr result (names.new.items ≡ names.old.items) }
-{
-    if names.as_slice().contains(&name) {
-        return Ok(());
-    }
-    names.push(name)?;
-    Ok(())
-}
-
-/// One name fewer.
-fn drop_name(names: &mut Vec<Name>, name: &Name)
-    ensures { names.new.items ≡ without_order name.now names.old.items }
-{
-    names.retain(|other| *name != *other);
 }
 
 impl OpenLines {
@@ -96,10 +76,10 @@ impl OpenLines {
         ensures refused { OnErr result (IsSame self.old self.new) }
     {
         match self.orders.get_mut(&TextKey::of_gtin(&gtin)) {
-            Some(orders) => add_name(orders, order),
+            Some(orders) => orders.add(order),
             None => {
-                let mut orders = Vec::new(self.alloc);
-                orders.push(order)?;
+                let mut orders = NameSet::new(self.alloc);
+                orders.add(order)?;
                 self.orders.insert(TextKey::of_gtin(&gtin), orders)?;
                 Ok(())
             }
@@ -111,7 +91,7 @@ impl OpenLines {
         ensures { ChangesAt gtin.now (without_order order.now) self.old self.new }
     {
         if let Some(orders) = self.orders.get_mut(&TextKey::of_gtin(gtin)) {
-            drop_name(orders, order);
+            orders.remove(order);
         }
     }
 
