@@ -1,6 +1,7 @@
 //! How many statements an act runs, and stock that is shown: a change that brings statements back changes a number here. Which
 //! they are is told by docs/BOOKS.md ("One act", "What `Books` keeps in memory").
 
+use crate::acting::acts_of;
 use crate::books::{Trial, act, in_memory};
 use crate::counting::Counts;
 use sqlite::Alter;
@@ -55,19 +56,19 @@ static CASES: [Case; 6] = [
         reads: 4,
         writes: 11,
     },
-    // The first pick for it. Sought are the line, the stage, and what is reserved for the order; written the stock, the stage
-    // and what is reserved.
+    // The first pick for it. Sought are the stage, and what is reserved for the order: the line is among those of the order.
+    // Written are the stock, the stage and what is reserved.
     Case {
         act: "K/P-~|PICK|O-1|#|L-1|A-01|5",
         numbers: (0, 1),
-        reads: 4,
+        reads: 3,
         writes: 5,
     },
-    // The other picks. Of what the first one sought only the line is another.
+    // The other picks. All that they seek beside their keys is known.
     Case {
         act: "K/P-~|PICK|O-1|#|L-1|A-01|5",
         numbers: (1, ITEMS),
-        reads: 2,
+        reads: 1,
         writes: 5,
     },
     // The shipment of the twenty lines. The stage is emptied by one statement, and one fills the lines; written are the order,
@@ -79,6 +80,22 @@ static CASES: [Case; 6] = [
         writes: 14,
     },
 ];
+
+// Orders that stay open, with a line of the first item.
+static OPEN: (&str, u64) = ("K/R-~|ORDER|R-~|Corner Shop|09506000130002|1", 3);
+
+// A row of a goods-in file that is not taken, since nobody took its item into the range.
+const NOT_TAKEN: &str = "D/D-4/1|RECEIVE|04012345000016|L-1|2026-06-30|A-01|10";
+
+// A receipt where no row is known. Beside its key are sought the open orders; of each of the three its lines, and whether it is
+// urgent; all that is staged; the item, what it asks for, its recalls, its stock and its two lots; and the bin. The orders and
+// their lines for the item were read with the open orders; the row of the books is read by its number.
+static FIRST: Case = Case {
+    act: "D/D-5/1|RECEIVE|#|L-1|2026-06-30|A-01|10",
+    numbers: (0, 1),
+    reads: 16,
+    writes: 4,
+};
 
 // The GTIN of an item: ten digits, its number of three, and the check digit.
 fn gtin(rt: &impl Abort, alloc: Global, number: u64) -> String {
@@ -185,6 +202,24 @@ fn is_shown_by<S: Alter>(
     assert!(rt; found == (reads, 0), "shown: {found:?}");
 }
 
+// No row is known after a goods-in file that is not taken.
+fn forgets<S: Alter>(rt: &impl Abort, alloc: Global, books: &mut Books<S>) {
+    let text = line(rt, alloc, NOT_TAKEN, 0);
+    let rows = acts_of(rt, alloc, text.as_bytes());
+    assert!(rt; rows.len() <= 1000);
+    assert!(rt; books.act_all(rows.as_slice()).is_err());
+    drop(rows);
+}
+
+// The first act over open orders.
+fn is_first<S: Alter>(rt: &impl Abort, alloc: Global, books: &mut Books<S>, counts: &Counts) {
+    let (written, count) = OPEN;
+    all_done(rt, alloc, books, written, count);
+    forgets(rt, alloc, books);
+    counts.take();
+    is_case(rt, alloc, books, counts, &FIRST);
+}
+
 // Each case is so.
 fn are_cases<S: Alter>(rt: &impl Abort, alloc: Global, books: &mut Books<S>, counts: &Counts) {
     for case in CASES.as_slice() {
@@ -209,6 +244,7 @@ pub(crate) fn are_counted<S: Alter>(
     is_shown_by(rt, alloc, books, counts, 0, 2);
     is_shown_by(rt, alloc, books, counts, 0, 0);
     is_shown_by(rt, alloc, books, counts, 1, 1);
+    is_first(rt, alloc, books, counts);
 }
 
 #[test]

@@ -10,6 +10,7 @@ pub mod KnowsWhole
 pub mod Counted
 pub mod AtMost
 pub mod RowsTold
+pub mod KnowsEach
 pub mod LinesFilled
 pub mod SeekSteps
 pub mod KeysTold

@@ -1,20 +1,20 @@
 -- What is known of the books, once it is read.
-use Rattle.slices.proofs.Words.{◌≡◌, Result, Ok, Err, OnOk, OnErr, IsTrue, sym, subst, arith, Tables, ITEMS_MAX, BINS_MAX, State, HasCleanDisk, IsReady, tables_in, TableFault, Put, IsRead, Knowing, AreBounds, KnowsFollowed, KnowsNoneFollowed, AreOpenLines, KnowsNoRows, HoldsOf, Knows, Followed, Bounds, Known}
+use Rattle.slices.proofs.Words.{◌≡◌, Result, Ok, Err, OnOk, OnErr, IsTrue, sym, subst, arith, Tables, ITEMS_MAX, BINS_MAX, State, HasCleanDisk, IsReady, tables_in, TableFault, Put, IsRead, Knowing, AreBounds, KnowsFollowed, KnowsNoneFollowed, AreOpenLines, KnowsRows, HoldsOf, Knows, Followed, Bounds, Known}
 use Rattle.slices.proofs.ReadSteps.{as_told}
 use Rattle.slices.proofs.Covering.{covers_read, covers_urgent_read}
-use Rattle.slices.proofs.StillKnown.{none_followed, no_rows_known}
+use Rattle.slices.proofs.StillKnown.{none_followed}
 
 -- a number that is not below the limit tells nothing
 none_bound : (t : Tables) (b : Bounds) → b ≡ record { items = ITEMS_MAX; bins = BINS_MAX } → AreBounds b t
 none_bound t b none = subst (λ (x : Bounds). AreBounds x t) (sym none) (record { items = λ less. absurd (omega (arith, less)); bins = λ less. absurd (omega (arith, less)) })
 
--- the open orders, and no number and no row
-pub first_known : (t : Tables) (known : Known) → AreOpenLines t known.lines known.urgent → known.bounds ≡ record { items = ITEMS_MAX; bins = BINS_MAX } → KnowsNoRows known.rows → HoldsOf known t
+-- the open orders, and no number
+pub first_known : (t : Tables) (known : Known) → AreOpenLines t known.lines known.urgent → known.bounds ≡ record { items = ITEMS_MAX; bins = BINS_MAX } → KnowsRows t known.rows → HoldsOf known t
 first_known t known lines bounds rows = record {
   lines = covers_read t known.lines known.urgent lines;
   urgent = covers_urgent_read t known.lines known.urgent lines;
   bounds = none_bound t known.bounds bounds;
-  rows = no_rows_known t known.rows rows;
+  rows = rows;
 }
 
 -- with what a change puts; after a read that failed nothing is known of the rows that follow what is written

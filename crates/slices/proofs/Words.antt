@@ -5,7 +5,8 @@ pub use Rattle.std.specs.Option.{option_to_list}
 pub use Rattle.std.specs.Ordering.{is_eq, nat_cmp}
 pub use Rattle.std.specs.Prelude.{nat_le, is_some, ◌||◌, if◌then◌else◌, ◌==◌, nat_lt, option_map, ℤ, pos, ◌+ℤ◌, bytes_eq, get_or, IfSome, IsErr, IsErrAnd, IsSome, reverse, slice_get}
 pub use Rattle.std.specs.declared.cmp.Ordering.{Ordering}
-pub use Rattle.std.proofs.Common.{◌≡◌, inl, inr, ℕ, ◌<◌, ◌≤◌, true, List, map, length, refl, ap, sym, subst, ◌∙◌, arith, find, Option, ◌+◌, Bool, false, ◌&&◌, not, [], ◌∷◌, filter, Some, None, ◌++◌, take, Result, Ok, append_assoc, Err, OnOk, OnErr, IfOk, IsTrue, IfErr, rules, Vec, Global, drop}
+pub use Rattle.std.proofs.Common.{◌≡◌, inl, inr, ℕ, ◌<◌, ◌≤◌, true, List, map, length, refl, ap, sym, subst, ◌∙◌, arith, find, Option, ◌+◌, Bool, false, ◌&&◌, not, [], ◌∷◌, filter, Some, None, ◌++◌, take, Result, Ok, append_assoc, Err, OnOk, OnErr, IfOk, IsTrue, IfErr, rules, Vec, Global, drop, ◌⊎◌, add-one, drop-cons}
+pub use Rattle.std.proofs.Math.Seq.{drop-length}
 pub use Rattle.std.proofs.lemmas.Bool.{cases_Bool, eqb-true}
 pub use Rattle.std.proofs.lemmas.Bool.Decides.{nat_tests}
 pub use Rattle.std.proofs.lemmas.List.{take_more, map_more, take_all}
@@ -73,9 +74,10 @@ pub use Rattle.rules.proofs.rows.SliceTells.{some_mapped, names_touched}
 pub use Rattle.rules.proofs.rows.Telling.{found_key}
 pub use Rattle.rows_in_memory.specs.Keyed.{same_lot_row, same_order_row, same_urgent_row, same_line_row, same_staged_row, same_reserved_row, same_stock_row}
 pub use Rattle.rows_in_memory.specs.Keys.{has_key, with_keys}
-pub use Rattle.rows_in_memory.specs.KnownRows.{RowMap, rows_at, without_row, with_put, each_changed, ChangesBy, Remembers, ForgetsBy}
-pub use Rattle.rows_in_memory.specs.LineOrder.{turned_line, line_key_cmp}
+pub use Rattle.rows_in_memory.specs.KnownRows.{RowMap, rows_at, without_row, with_put, each_changed, ChangesBy, Remembers, ForgetsBy, LearnsAt}
+pub use Rattle.rows_in_memory.specs.LineOrder.{turned_line, line_key_cmp, lines_told, lines_exact}
 pub use Rattle.rows_in_memory.specs.LotOrder.{lot_key as turned_lot, lot_key_cmp}
+pub use Rattle.rows_in_memory.specs.NameOrder.{names_told, names_exact}
 pub use Rattle.rows_in_memory.specs.OpenLines.{Entries, holds, Gains, Loses, has_line_row, is_closed_state, has_closed_row, orders_at, are_apart, Keeps}
 pub use Rattle.rows_in_memory.proofs.KeysOnce.{has_keys, once_keys}
 pub use Rattle.rows_in_memory.proofs.Learned.{remembers_all, remembers_left, remembers_none}
@@ -108,7 +110,7 @@ pub use Rattle.slices.specs.Bounding.{IsAtMost, AreBounds, IsToldNumber, with_co
 pub use Rattle.slices.specs.ByLot.{AreLotsOf}
 pub use Rattle.slices.specs.Following.{KnowsFollowed, KnowsNoneFollowed, KnowsMeta, StageForgotten, StageLeft}
 pub use Rattle.slices.specs.Reading.{IsCount, Each, IsRead, Knowing}
-pub use Rattle.slices.specs.Remembering.{KnowsRows, KnowsNoRows, Learning, ForgetsPut}
+pub use Rattle.slices.specs.Remembering.{KnowsRows, KnowsNoRows, Learning, ForgetsPut, IsAlone, LearnsEach}
 pub use Rattle.slices.specs.Slicing.{AreCounts, is_among, is_passed, is_open_in, with_names, other_names, has_urgent_row, urgent_lines, opens, opened_by, comes, Covers, CoversUrgent, AreAllLines, AreUrgents, AreNamed, AreKnownOrders, AreOpenLines, AreLinesPut, AreUrgentsPut, Knows, is_ending, items_of_lots, AreEnding, AreAffected, listed, has_line_in, AreLinesOfItem, AreLinesOfItems, AreOrders, HoldsOf, ArePicked, AreLinesOf, AreLinesFor, lots_on_stage, AreShipped, IsSliceOf, IsSliceIn, AreSliced, orders_named, with_some, items_named, lots_named, bins_named, whole_orders, held_lots, AreTaken, AreTouched, ArePlanned, with_name, names_among, names_at, AreUrgentsFor, with_staged, not_recalled, AreStaged, AreBins, AreGoods}
 pub use Rattle.slices.specs.declared.followed.Followed.{Followed}
 pub use Rattle.slices.specs.declared.knowing.Bounds.{Bounds}

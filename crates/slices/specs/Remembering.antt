@@ -1,8 +1,9 @@
 -- The rows that are known by what they were sought by, and reads that are answered from them.
-use Rattle.std.specs.Prelude.{ℕ, List, reverse}
-use Rattle.std.specs.Ordering.{nat_cmp}
+use Rattle.std.specs.Prelude.{◌≡◌, ◌⊎◌, ℕ, true, List, [], ◌∷◌, reverse, Some, IfSome}
+use Rattle.std.specs.Ordering.{is_eq, nat_cmp}
+use Rattle.std.specs.declared.cmp.Ordering.{Ordering}
 use Rattle.std.specs.Cmp.Lexicographic.{slice_cmp}
-use Rattle.slices.specs.Words.{Tables, BinRow, ItemRow, LeastRow, RecallRow, Put, AreLeastOf, RowMap, KnowsNone, ForgetsBy, Remembers}
+use Rattle.slices.specs.Words.{Tables, BinRow, ItemRow, LeastRow, RecallRow, Put, AreLeastOf, RowMap, rows_at, KnowsNone, ForgetsBy, Remembers}
 use Rattle.tables.specs.Bins.{AreBinsOf}
 use Rattle.tables.specs.Items.{AreItemsOf}
 use Rattle.tables.specs.Recalls.{AreRecallsOf}
@@ -54,3 +55,15 @@ pub record ForgetsPut (puts : Put) (old new : RowsKnown) : Type 0 where
 -- what a read tells holds of the tables if what is known before it does, and then what is known after it does too
 abbrev pub Learning : {X : Type 0} → RowsKnown → RowsKnown → (Tables → X → Type 0) → Tables → X → Type 0
 Learning old new = Knowing (λ t. KnowsRows t old) (λ t. KnowsRows t new)
+
+-- Rows that are known one by one
+
+module _ {K R : Type 0} (cmp : K → K → Ordering) (key : R → K) where
+  -- one of these rows alone, under its key
+  abbrev pub IsAlone : List R → K → List R → Type 0
+  IsAlone [] q found = ⊥
+  IsAlone (r ∷ rows) q found = ((is_eq (cmp (key r) q) ≡ true) × (found ≡ r ∷ [])) ⊎ IsAlone rows q found
+
+  -- what is known after was known before, or it is one of these rows alone, under its key
+  abbrev pub LearnsEach : List R → RowMap K R → RowMap K R → Type 0
+  LearnsEach rows old new = (q : K) → IfSome (rows_at cmp new q) (λ found. IsAlone rows q found ⊎ (rows_at cmp old q ≡ Some found))

@@ -4,6 +4,8 @@ ghost use Rattle.std.specs.Prelude.{◌≡◌};
 ghost use Rattle.sqlite.specs.Held.{state};
 ghost use Rattle.tables.specs.Lines.{AreLineOf};
 ghost use Rattle.tables.specs.Orders.{AreOrdersOf};
+ghost use Rattle.commands.specs.Tables.{Tables};
+ghost use Rattle.slices.specs.Following.{KnowsLines, KnowsLinesAt};
 ghost use Rattle.slices.specs.Reading.{IsRead};
 ghost use Rattle.slices.specs.Remembering.{Learning};
 ghost use Rattle.slices.specs.Slicing.{AreAllLines, AreOrders, AreUrgents};
@@ -11,7 +13,8 @@ ghost use Rattle.slices.specs.Slicing.{AreAllLines, AreOrders, AreUrgents};
 use crate::rows_known::RowsKnown;
 use crate::{seek_all_known, seek_known};
 use commands::{LineRow, OrderRow, UrgentRow};
-use rows_in_memory::LineKey;
+use row_rules::row_search::rows_with;
+use rows_in_memory::{KnownRows, LineKey};
 use sqlite::{Alter, Transaction};
 use std::alloc::Global;
 use table_words::error::TableFault;
@@ -59,7 +62,27 @@ pub fn seek_lines<S: Alter>(
     seek_all_known::<Lines, Name, TextKey, S>(alloc, tx, &mut rows.followed.lines, orders)
 }
 
-/// The line of an order for an item, where there is one.
+// Where all lines of an order are known, its line for an item is known by both too, if there is memory for it.
+fn know_line(
+    alloc: Global,
+    lines: &KnownRows<Name, TextKey, LineRow>,
+    lines_at: &mut KnownRows<(Name, Gtin), LineKey, LineRow>,
+    line: &(Name, Gtin),
+)
+    ensures { (t : Tables) → KnowsLines t lines.now.rows → KnowsLinesAt t lines_at.old.rows → KnowsLinesAt t lines_at.new.rows }
+{
+    if lines_at.rows_of(line).is_some() {
+        return;
+    }
+    let Some(known) = lines.rows_of(&line.0) else {
+        return;
+    };
+    if let Ok(own) = rows_with(alloc, known, line) {
+        lines_at.keep(line, own);
+    }
+}
+
+/// The line of an order for an item, where there is one: it is among all lines of the order, where these are known.
 pub fn seek_line<S: Alter>(
     alloc: Global,
     tx: &mut Transaction<'_, S>,
@@ -69,6 +92,12 @@ pub fn seek_line<S: Alter>(
     ensures same_reference { tx.new.conn.ghost_name ≡ tx.old.conn.ghost_name }
     ensures read { IsRead (Learning rows.old rows.new (λ t found. AreLineOf line.now t found.items)) (state S.Store tx.old.conn.now) (state S.Store tx.new.conn.now) result }
 {
+    know_line(
+        alloc,
+        &rows.followed.lines,
+        &mut rows.followed.lines_at,
+        line,
+    );
     seek_known::<Lines, (Name, Gtin), LineKey, S>(alloc, tx, &mut rows.followed.lines_at, line)
 }
 
