@@ -22,7 +22,7 @@ abbrev pub SameEach : List TableName → Database → Database → Type 0
 SameEach names a b = AllByRecursion (λ n. SameCalled n a b) names
 
 abbrev pub SameTables : Database → Database → Type 0
-SameTables = SameEach TABLE_NAMES
+SameTables = SameEach TABLE_NAMES.now
 
 -- a row of this table has a value that no row has, or memory or the disk did not suffice
 abbrev pub IsUnread : Trees → Unread → Type 0

@@ -91,5 +91,5 @@ pub(crate) fn compare_tables<S: Alter, M: Alter>(
     ensures same_reference_too { replayed.new.conn.ghost_name ≡ replayed.old.conn.ghost_name }
     ensures tells { Tells SameTables (state S.Store books.old.conn.now) (state S.Store books.new.conn.now) (state M.Store replayed.old.conn.now) (state M.Store replayed.new.conn.now) result }
 {
-    compare_each(alloc, books, replayed, middle, &TABLE_NAMES)
+    compare_each(alloc, books, replayed, middle, TABLE_NAMES)
 }

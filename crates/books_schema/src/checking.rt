@@ -171,7 +171,7 @@ pub fn tables_match(
 fn are_tables(alloc: Global, found: &[Table]) -> Result<bool, AllocError>
     ensures { IfOk result (λ same. IsTrue same ↔ (found.now ≡ the_tables)) }
 {
-    tables_match(alloc, found, &ALL_TABLES)
+    tables_match(alloc, found, ALL_TABLES)
 }
 
 fn refers_to_none(found: &Table) -> bool
@@ -203,7 +203,7 @@ fn are_harmless(found: &[Index]) -> bool
 fn begin_with_tables(alloc: Global, found: &[Table]) -> Result<bool, AllocError>
     ensures { IfOk result (λ yes. IsTrue yes ↔ BeginsWithTables found.now) }
 {
-    let tables: &[TableLayout] = &ALL_TABLES;
+    let tables = ALL_TABLES;
     if found.len() < tables.len() {
         return Ok(false);
     }

@@ -24,13 +24,13 @@ pub struct IndexLayout {
 }
 
 /// The tables of all steps, in their order.
-pub const ALL_TABLES: [TableLayout; 16] = [
+pub const ALL_TABLES: &[TableLayout] = &[
     META, ITEMS, BINS, LOTS, RECALLS, STOCK, ORDERS, LINES, STAGED, RESERVED, SHIPMENTS, SHIPLINES,
     CARDS, REPEATS, LEAST, URGENTS,
 ];
 
 /// The tables of schema 1, in their order.
-pub const FIRST_TABLES: [TableLayout; 14] = [
+pub const FIRST_TABLES: &[TableLayout] = &[
     META, ITEMS, BINS, LOTS, RECALLS, STOCK, ORDERS, LINES, STAGED, RESERVED, SHIPMENTS, SHIPLINES,
     CARDS, REPEATS,
 ];

@@ -37,7 +37,7 @@ fn make_room<S: Alter>(tx: &mut Transaction<'_, S>, older: OlderBooks) -> Result
     ensures survives { Survives (state S.Store tx.old.conn.now) (state S.Store tx.new.conn.now) (λ _. ⊥) }
 {
     drop_indexes(tx)?;
-    run_steps(tx, &STEPS, older.number())
+    run_steps(tx, STEPS, older.number())
 }
 
 /// The row of `meta` in these books; `Foreign` where there is no such row, or one with a value that no row has.

@@ -20,10 +20,10 @@ pub struct Step {
 
 /// The steps of the schema, in the order of their numbers. The tables of all of them stand before any others, in this
 /// order.
-pub const STEPS: [Step; 3] = [
+pub const STEPS: &[Step] = &[
     Step {
         version: 1,
-        tables: &layouts::FIRST_TABLES,
+        tables: layouts::FIRST_TABLES,
     },
     Step {
         version: 2,

@@ -11,11 +11,11 @@ each_alike a b same (r ∷ rows) t = ap (each_written a rows) (same r t) ∙ eac
 pub table_left : (c : Change) (t : Tables) (n : TableName) → look n (change_written c t) ≡ look n (table_written c n t)
 unfolding change_written
 table_left c t n =
-    ap (look n) (each_alike (table_written c) (λ m u. over m (written c m (look m u)) u) (table_is c) TABLE_NAMES t)
+    ap (look n) (each_alike (table_written c) (λ m u. over m (written c m (look m u)) u) (table_is c) TABLE_NAMES.now t)
     ∙ whole n
     ∙ sym (ap (look n) (table_is c n t) ∙ (family n).there (written c n (look n t)) t)
   where
-    whole : (n : TableName) → look n (each_written (λ m u. over m (written c m (look m u)) u) TABLE_NAMES t) ≡ written c n (look n t)
+    whole : (n : TableName) → look n (each_written (λ m u. over m (written c m (look m u)) u) TABLE_NAMES.now t) ≡ written c n (look n t)
     whole Meta = refl
     whole n = refl
 
@@ -30,7 +30,7 @@ names_applied c (n ∷ names) are t =
 
 pub change_is_applied : (c : Change) (t : Tables) → are_once c.put ≡ true → change_written c t ≡ applied c t
 unfolding change_written applied
-change_is_applied c t are = names_applied c TABLE_NAMES are t
+change_is_applied c t are = names_applied c TABLE_NAMES.now are t
 
 -- to fill the lines of an order is to put them, where these rows fill them
 module _ (c : Change) (t : Tables) where
@@ -51,15 +51,15 @@ module _ (c : Change) (t : Tables) where
   own f n u = over n (written c n (look n u)) u
 
   abbrev with_lines : line_look → Tables
-  with_lines f = each_written (own f) TABLE_NAMES t
+  with_lines f = each_written (own f) TABLE_NAMES.now t
 
   pub made_is_written : (filled : Option (List ℕ)) → IfSome filled (λ order. FillsLines c order t) → change_made c filled t ≡ change_written c t
   unfolding change_made change_written
   made_is_written None fills = refl
   made_is_written (Some order) fills =
-      each_alike (λ n. table_made c n (Some order)) (λ n u. over n (filled_look order n (look n u)) u) (filled_is order) TABLE_NAMES t
+      each_alike (λ n. table_made c n (Some order)) (λ n u. over n (filled_look order n (look n u)) u) (filled_is order) TABLE_NAMES.now t
       ∙ ap with_lines (λ i k. same k i)
-      ∙ sym (each_alike (table_written c) (λ n u. over n (written c n (look n u)) u) (table_is c) TABLE_NAMES t)
+      ∙ sym (each_alike (table_written c) (λ n u. over n (written c n (look n u)) u) (table_is c) TABLE_NAMES.now t)
     where
       same : (k : Key Lines) → filled_look order Lines (look Lines t) k ≡ written c Lines (look Lines t) k
       same k = sym (fills k) ∙ (λ i. look Lines (table_is c Lines t i) k)

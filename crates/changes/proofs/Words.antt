@@ -65,7 +65,7 @@ pub use Rattle.tables.specs.Repeats.{repeats}
 pub use Rattle.whole_tables.specs.Family.{family, Key, described, look, over}
 pub use Rattle.whole_tables.specs.declared.key.TableName.{TableName}
 pub use Rattle.whole_tables.specs.declared.key.TheConstants.{TABLE_NAMES}
-pub use Rattle.whole_tables.specs.declared.key.TableName.TheVariants.{Meta, Items, Least, Bins, Lots, Recalls, Stock, Orders, Urgents, Lines, Staged, Reserved, Shipments, Shiplines, Cards, Repeats}
+pub use Rattle.whole_tables.specs.declared.key.TableName.TheVariants.{Meta, Lines, Staged}
 pub use Rattle.changes.specs.Many.{AddsMany, many_terms}
 pub use Rattle.changes.specs.Written.{puts, drops, stage_emptied, emptied, table_written, rows_written, table_made, FillsLines}
 unfoldable pub use Rattle.changes.specs.Written.{change_written, change_made}

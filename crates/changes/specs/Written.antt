@@ -55,7 +55,7 @@ table_written c n t = rows_written (with_row (described n)) (λ r. without_row (
 
 -- a change, whole; where no key is put twice it is the change applied
 unfoldable pub change_written : Change → Tables → Tables
-change_written c = each_written (table_written c) TABLE_NAMES
+change_written c = each_written (table_written c) TABLE_NAMES.now
 
 -- the same where one statement ships all units of each line of an order, if there is one to fill
 abbrev pub table_made : Change → TableName → Option (List ℕ) → Tables → Tables
@@ -68,4 +68,4 @@ FillsLines c order t = (k : Key table.Lines) → look table.Lines (table_written
 
 -- a change, whole, made so; where its lines fill the order it is the change written
 unfoldable pub change_made : Change → Option (List ℕ) → Tables → Tables
-change_made c filled = each_written (λ n. table_made c n filled) TABLE_NAMES
+change_made c filled = each_written (λ n. table_made c n filled) TABLE_NAMES.now

@@ -188,5 +188,5 @@ pub fn write_change<S: Alter>(
     ensures same_reference { tx.new.conn.ghost_name ≡ tx.old.conn.ghost_name }
     ensures writes { Writes (change_made change.now filled) (state S.Store tx.old.conn.now) (state S.Store tx.new.conn.now) result }
 {
-    write_tables(alloc, tx, change, &filled, &TABLE_NAMES)
+    write_tables(alloc, tx, change, &filled, TABLE_NAMES)
 }

@@ -5,9 +5,9 @@
 fn statements_have_at_most_sixty_texts(rt: HostRuntime) {
     let mut texts = Vec::new(rt.alloc());
     let crates: [&[&str]; 3] = [
-        &tables::goods_texts::TEXTS,
-        &tables::order_texts::TEXTS,
-        &tables::history_texts::TEXTS,
+        tables::goods_texts::TEXTS,
+        tables::order_texts::TEXTS,
+        tables::history_texts::TEXTS,
     ];
     for list in crates {
         for text in list {

@@ -5,7 +5,7 @@ use Rattle.whole_tables.specs.Family.{over}
 use Rattle.whole_tables.specs.declared.key.TheConstants.{TABLE_NAMES}
 
 pub one_tables : OneTables
-one_tables a b h = λ i. each_written (λ n t. over n (λ k. h n k i) t) TABLE_NAMES a
+one_tables a b h = λ i. each_written (λ n t. over n (λ k. h n k i) t) TABLE_NAMES.now a
 
 stays : (c : Command) (day : ℤ) → is_opening c ≡ false → day_after_command c day ≡ day
 stays (OpenDay c) day e = absurd (true≢false e)

@@ -59,7 +59,7 @@ pub enum Route {
 }
 
 /// The routes that are served.
-pub static ROUTES: [(&str, Route); 33] = [
+pub static ROUTES: &[(&str, Route)] = &[
     ("/items", Route::Post(Posted::Items)),
     ("/bins", Route::Post(Posted::Bins)),
     ("/receipts", Route::Post(Posted::Receipts)),
@@ -121,7 +121,7 @@ fn add_routes(router: &mut Router<Route>, list: &[(&str, Route)]) -> bool
 fn add_served(router: &mut Router<Route>) -> bool
     ensures { IsTrue result → router.old ≡ [] → router.new ≡ table }
 {
-    add_routes(router, ROUTES.as_slice())
+    add_routes(router, ROUTES)
 }
 
 fn found_at(router: &Router<Route>, path: &str) -> Option<Route>

@@ -1,6 +1,6 @@
 -- The table `staged`.
 use Rattle.std.specs.Prelude.{if◌then◌else◌, ◌∷◌}
-use Rattle.tables.specs.Words.{ℕ, bytes_eq, List, [], None, codes, refl, pos, and_parts, Text, is_gtin, is_lot_text, is_name, Tables, StagedRow, ADD_STAGED, CHANGE_STAGED, STAGED_OF_ITEM, STAGED_OF_ORDER, STAGED_OF, ALL_STAGED, DROP_STAGED, DROP_STAGE, one, pair, none, lot_columns, text_stored, staged_table, same_lot_id, StagedKey, same_staged, staged_key, staged_mapping, cast_number, cast_null, same_lots, itself_lot, same_both, same_bytes, itself_both, itself_bytes, All, Described, IsLawful, Change, ChangeIs, IsChange, DropIs, key_found, Asks, of_key, for_all, by_text, by_key, tests_of, AreSought, IsText, IsAsked, planned, whole_change, one_keyed}
+use Rattle.tables.specs.Words.{ℕ, bytes_eq, List, [], None, codes, refl, pos, and_parts, Text, is_gtin, is_lot_text, is_name, Tables, StagedRow, ADD_STAGED, CHANGE_STAGED, STAGED_OF_ITEM, STAGED_OF_ORDER, ALL_STAGED, DROP_STAGED, DROP_STAGE, one, none, text_stored, staged_table, same_lot_id, StagedKey, same_staged, staged_key, staged_mapping, cast_number, cast_null, same_lots, itself_lot, same_both, same_bytes, itself_both, itself_bytes, All, Described, IsLawful, Change, ChangeIs, IsChange, DropIs, key_found, Asks, Compared, of_key, for_all, by_text, tests_of, AreRows, AreSought, IsText, IsAsked, planned, whole_change, one_keyed}
 use Rattle.sqlite.specs.Listing.{understood}
 use Rattle.sqlite_tied.specs.Compute.{everything}
 use Rattle.tables.specs.Dropping.{DropsBy}
@@ -39,12 +39,12 @@ staged_of_order = by_text STAGED_OF_ORDER.now 1 (λ k. k.0)
 abbrev pub AreStagedOfOrder : List ℕ → Tables → List StagedRow → Type 0
 AreStagedOfOrder = AreSought staged staged_of_order
 
--- that of an order and a lot
-abbrev pub staged_of : Asks StagedKey StagedKey
-staged_of = by_key STAGED_OF.now (of_key 1 (λ k. k.0) ∷ of_key 2 (λ k. k.1.gtin) ∷ of_key 3 (λ k. k.1.lot) ∷ [])
+-- that of an order and a lot; no statement asks for it
+abbrev pub key_columns : List (Compared StagedKey StagedKey)
+key_columns = of_key 1 (λ k. k.0) ∷ of_key 2 (λ k. k.1.gtin) ∷ of_key 3 (λ k. k.1.lot) ∷ []
 
 abbrev pub AreStagedOf : StagedKey → Tables → List StagedRow → Type 0
-AreStagedOf = AreSought staged staged_of
+AreStagedOf k t rows = AreRows same_staged staged_key (same_staged k) (λ at. t.staged at.0 at.1) rows
 
 -- all of them
 abbrev pub all_staged : Asks StagedKey All
@@ -73,7 +73,7 @@ staged_laws = record {
   itself = λ k. itself_both _ _ (itself_bytes k.0) (itself_lot k.1);
   one_key = same_both bytes_eq same_lot_id same_bytes same_lots;
   one_row = λ db ready params. one_keyed db ready 8 staged_table.tree (codes "staged") staged_table.columns (1 ∷ 2 ∷ 3 ∷ []) refl refl params;
-  at_key = key_found staged staged_of.columns (order_text, (gtin_text, (lot_text, tt)));
+  at_key = key_found staged key_columns (order_text, (gtin_text, (lot_text, tt)));
   own_key = λ s r. refl;
   looks = λ trees. refl;
   sets = λ trees rows. refl;
@@ -114,10 +114,6 @@ staged_of_item_laws = record { few = refl; fits = λ by. refl; cells = λ by. re
 pub staged_of_order_laws : IsAsked (one (text_stored is_name)) 1 staged staged_of_order
 unfolding understood everything
 staged_of_order_laws = record { few = refl; fits = λ by. refl; cells = λ by. refl; is = λ rest. (refl, refl, (refl, refl)); texts = (order_text, tt) }
-
-pub staged_of_laws : IsAsked (pair (text_stored is_name) lot_columns) 3 staged staged_of
-unfolding understood everything
-staged_of_laws = record { few = refl; fits = λ by. refl; cells = λ by. refl; is = λ rest. (refl, refl, (refl, refl)); texts = (order_text, (gtin_text, (lot_text, tt))) }
 
 pub all_staged_laws : IsAsked (none (record {})) 0 staged all_staged
 unfolding understood everything

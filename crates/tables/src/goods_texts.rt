@@ -66,7 +66,7 @@ pub(crate) const STOCK_IN: &str =
     "SELECT gtin, lot, bin, qty FROM stock WHERE bin = ?1 ORDER BY rowid";
 
 /// All of them. A connection keeps the plans of its last 64 texts, so the tables together have at most 60.
-pub const TEXTS: [&str; 26] = [
+pub const TEXTS: &[&str] = &[
     ADD_BIN,
     BINS_OF,
     ALL_BINS,

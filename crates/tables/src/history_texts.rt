@@ -25,7 +25,7 @@ pub(crate) const SHIPMENTS_OF: &str =
     "SELECT number, act, day, ord FROM shipments WHERE number = ?1";
 
 /// All of them. A connection keeps the plans of its last 64 texts, so the tables together have at most 60.
-pub const TEXTS: [&str; 8] = [
+pub const TEXTS: &[&str] = &[
     ADD_CARD,
     CARDS_BY_ACT,
     CARDS_OF,

@@ -60,9 +60,6 @@ pub(crate) const STAGED_OF_ITEM: &str =
 pub(crate) const STAGED_OF_ORDER: &str =
     "SELECT ord, gtin, lot, qty FROM staged WHERE ord = ?1 ORDER BY rowid";
 
-pub(crate) const STAGED_OF: &str =
-    "SELECT ord, gtin, lot, qty FROM staged WHERE ord = ?1 AND gtin = ?2 AND lot = ?3 ORDER BY rowid";
-
 pub(crate) const ALL_STAGED: &str = "SELECT ord, gtin, lot, qty FROM staged ORDER BY rowid";
 
 pub(crate) const ADD_URGENT: &str = "INSERT INTO urgents (ord, act) VALUES (?1, ?2)";
@@ -72,7 +69,7 @@ pub(crate) const URGENTS_OF: &str = "SELECT ord, act FROM urgents WHERE ord = ?1
 pub(crate) const ALL_URGENTS: &str = "SELECT ord, act FROM urgents ORDER BY rowid";
 
 /// All of them. A connection keeps the plans of its last 64 texts, so the tables together have at most 60.
-pub const TEXTS: [&str; 25] = [
+pub const TEXTS: &[&str] = &[
     CHANGE_LINE,
     FILL_LINES,
     ADD_LINE,
@@ -94,7 +91,6 @@ pub const TEXTS: [&str; 25] = [
     ADD_STAGED,
     STAGED_OF_ITEM,
     STAGED_OF_ORDER,
-    STAGED_OF,
     ALL_STAGED,
     ADD_URGENT,
     URGENTS_OF,

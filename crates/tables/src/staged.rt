@@ -6,8 +6,7 @@ ghost use Rattle.keyed_rows.specs.Writes.{Writes, Spares};
 ghost use Rattle.tables.specs.Staged.{without_stage};
 
 use crate::order_texts::{
-    ADD_STAGED, ALL_STAGED, CHANGE_STAGED, DROP_STAGE, DROP_STAGED, STAGED_OF, STAGED_OF_ITEM,
-    STAGED_OF_ORDER,
+    ADD_STAGED, ALL_STAGED, CHANGE_STAGED, DROP_STAGE, DROP_STAGED, STAGED_OF_ITEM, STAGED_OF_ORDER,
 };
 use commands::StagedRow;
 use keyed_rows::mapped::Mapped;
@@ -129,18 +128,6 @@ impl SoughtBy<All> for Staged {
 
     fn asking_text() -> &'static str {
         ALL_STAGED
-    }
-}
-
-impl SoughtBy<(Name, LotId)> for Staged {
-    ghost use Rattle.tables.specs.Staged.{staged_of, staged_of_laws};
-
-    ghost asks = { staged_of };
-
-    ghost asked = { staged_of_laws };
-
-    fn asking_text() -> &'static str {
-        STAGED_OF
     }
 }
 
