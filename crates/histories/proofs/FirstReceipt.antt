@@ -1,5 +1,6 @@
 -- The line of the first receipt on the card of its lot: it has the day that the acts began on.
-use Rattle.histories.proofs.Words.{◌≡◌, ◌<◌, ◌≤◌, ℕ, suc, ◌-◌, true, false, ◌&&◌, List, [], ◌∷◌, ◌++◌, length, find, flat_map, Option, Some, None, inl, inr, refl, sym, ap, subst, ◌∙◌, arith, eq-eqb, append_assoc, IsTrue, ℤ, pos, negsuc, ◌==◌, if◌then◌else◌, option_map, AllByRecursion, cases_Bool, nat_tests, same_Some, none-some, LotId, is_name, is_qty, is_day, is_sound, is_lot_id, Key, Receipt, Command, Receive, Move, Count, Adjust, Pick, Unpick, Ship, Hold, Recall, OpenDay, Least, CardRow, CardKind, Act, next_number, Place, Supplier, InBin, Stage, Shipped, WriteOff, Posting, balance, is_bin, is_lot, KnownLot, Placed, RETURNS, lots, lots_after, orders, today, day_after_command, posting, written, cleared, shipped_off, lot_returned, returned, posted, postings, cards, card_line, card_lines, IsHistory, card_row, is_lot_refl, and_both, at_least_one, told_by, Start, Received, told_first, start_of}
+use Rattle.histories.proofs.Words.{◌≡◌, ◌<◌, ◌≤◌, ℕ, true, false, ◌&&◌, List, [], ◌∷◌, ◌++◌, length, find, flat_map, Option, Some, None, inl, inr, refl, sym, ap, subst, ◌∙◌, arith, eq-eqb, append_assoc, IsTrue, ℤ, ◌==◌, option_map, cases_Bool, nat_tests, same_Some, none-some, LotId, is_name, is_qty, is_day, is_sound, is_lot_id, Key, Receipt, Command, Receive, OpenDay, CardRow, CardKind, Act, next_number, Place, Supplier, InBin, Stage, Shipped, WriteOff, Posting, is_lot, KnownLot, lots, lots_after, today, day_after_command, posted, postings, cards, card_line, card_lines, IsHistory, card_row, is_lot_refl, and_both, at_least_one, told_by, Start, Received, told_first, start_of}
+use Rattle.machine.proofs.histories.ActFacts.{Entry, Nothing, One, Corrected, ShippedOff, Returned, entry_of, entry_posted, Each, Shown, each_of_entry, all_returned}
 
 -- ---- acts that tell nothing
 
@@ -30,50 +31,21 @@ untold_lots (act ∷ before) e =
 -- ---- the lines of an act bear its number
 
 abbrev AllOf : ℕ → List Posting → Type 0
-AllOf n ps = AllByRecursion (λ (p : Posting). p.act ≡ n) ps
-
-all_both : (n : ℕ) (ps qs : List Posting) → AllOf n ps → AllOf n qs → AllOf n (ps ++ qs)
-all_both n [] qs h k = k
-all_both n (p ∷ ps) qs h k = (h.0, all_both n ps qs h.1 k)
-
-of_posting : (n : ℕ) (l : LotId) (from to : Place) (q : ℕ) → AllOf n (posting n l from to q)
-of_posting n l from to q = elim (q == 0) as (λ b. AllOf n (if b then [] else record { act = n; lot = l; from = from; to = to; qty = q } ∷ [])) [ true ↦ tt | false ↦ (refl, tt) ]
-
-of_written : (n : ℕ) (l : LotId) (b : List ℕ) (z : ℤ) → AllOf n (written n l b z)
-of_written n l b (pos k) = of_posting n l WriteOff (InBin b) k
-of_written n l b (negsuc k) = of_posting n l (InBin b) WriteOff (suc k)
-
-of_shipped : (n shipment : ℕ) (o : List ℕ) (ks : List KnownLot) (ps : List Posting) → AllOf n (shipped_off n shipment o ks ps)
-of_shipped n shipment o [] ps = tt
-of_shipped n shipment o (k ∷ ks) ps = all_both n (cleared n ps (Shipped shipment o) o k.lot) (shipped_off n shipment o ks ps) (of_posting n k.lot (Stage o) (Shipped shipment o) _) (of_shipped n shipment o ks ps)
-
-of_lot : (n : ℕ) (os : List Placed) (ps : List Posting) (k : KnownLot) → AllOf n (lot_returned n os ps k)
-of_lot n [] ps k = tt
-of_lot n (p ∷ os) ps k = all_both n (cleared n ps (InBin RETURNS) p.order k.lot) (lot_returned n os ps k) (of_posting n k.lot (Stage p.order) (InBin RETURNS) _) (of_lot n os ps k)
-
-of_returned : (n : ℕ) (ks : List KnownLot) (os : List Placed) (ps : List Posting) → AllOf n (returned n ks os ps)
-of_returned n [] os ps = tt
-of_returned n (k ∷ ks) os ps = all_both n (lot_returned n os ps k) (returned n ks os ps) (of_lot n os ps k) (of_returned n ks os ps)
+AllOf n ps = Each (λ (p : Posting). p.act ≡ n) ps
 
 module _ (first : ℤ) (act : Act) (before : List Act) (ps : List Posting) where
-  abbrev number : ℕ
-  number = next_number before
+  abbrev IsOf : Posting → Type 0
+  IsOf p = p.act ≡ next_number before
 
-  of_act : (c : Command) → AllOf number (posted first act before ps c)
-  of_act (Receive r) = of_posting number r.lot Supplier (InBin r.bin) r.qty
-  of_act (Move m) = of_posting number m.lot (InBin m.from) (InBin m.to) m.qty
-  of_act (Count c) =
-      let have = balance (is_bin c.bin) (is_lot c.lot) ps in
-      all_both number (posting number c.lot WriteOff (InBin c.bin) (c.qty - have)) (posting number c.lot (InBin c.bin) WriteOff (have - c.qty)) (of_posting number c.lot WriteOff (InBin c.bin) (c.qty - have)) (of_posting number c.lot (InBin c.bin) WriteOff (have - c.qty))
-  of_act (Adjust a) = of_written number a.lot a.bin a.change
-  of_act (Pick p) = of_posting number p.lot (InBin p.bin) (Stage p.order) p.qty
-  of_act (Unpick p) = of_posting number p.lot (Stage p.order) (InBin p.bin) p.qty
-  of_act (Ship o) = of_shipped number _ o (lots before) ps
-  of_act (Hold l) = of_returned number _ (orders before) ps
-  of_act (Recall l) = of_returned number _ (orders before) ps
-  of_act (OpenDay day) = of_returned number _ (orders before) ps
-  of_act (Least l) = of_returned number _ (orders before) ps
-  of_act _ = tt
+  shown : (e : Entry) → Shown IsOf first act before ps e
+  shown Nothing = tt
+  shown (One l from to q) = λ some. refl
+  shown (Corrected l b found) = (λ some. refl, λ some. refl)
+  shown (ShippedOff o) = λ l some. refl
+  shown Returned = all_returned IsOf first act before ps (λ l o some. refl)
+
+  of_act : (c : Command) → AllOf (next_number before) (posted first act before ps c)
+  of_act c = subst (Each IsOf) (entry_posted first act before ps c) (each_of_entry IsOf first act before ps (entry_of c) (shown (entry_of c)))
 
 -- ---- a later act has no line of an earlier number
 

@@ -3,7 +3,7 @@ pub use Rattle.std.specs.Io.{StartsWith, StopsAt, IsEmptyOrEndsWith, appended_by
 pub use Rattle.std.specs.Io.BufRead.{FillKeeps, DropsConsumable}
 pub use Rattle.std.specs.Io.KnownBytes.{Appends, Consumes, IsAtEnd}
 pub use Rattle.std.specs.List.{AllByRecursion}
-pub use Rattle.std.specs.Prelude.{ℤ, ◌==◌, if◌then◌else◌, OnSome, pos, negsuc, option_map, ◌⊎◌, IfErr}
+pub use Rattle.std.specs.Prelude.{ℤ, ◌==◌, if◌then◌else◌, OnSome, option_map, ◌⊎◌, IfErr}
 pub use Rattle.std.proofs.BufReadLemmas.{Consumes_shown, zero_unless_positive}
 pub use Rattle.std.proofs.Common.{◌≡◌, ℕ, ◌+◌, List, [], ◌∷◌, ◌++◌, append_assoc, length, refl, sym, ap, subst, ◌∙◌, Option, ◌≤◌, length-append, find, inl, inr, arith, Some, suc, ◌<◌, take, drop, get_or, take-append-drop, drop-cons, ◌≢◌, append-nil, None, zero, ◌-◌, true, eq-eqb, eqb-true, All, false, ◌&&◌, flat_map, IsTrue, ap₂, Result, Ok, Err, rules, get_or-take, le_refl, length-take-le, drop_of_length-le, take-take}
 pub use Rattle.std.proofs.KnownBytes.{Appends-trans, Appends-nil, starts_with_rest, Consumes-trans, Consumes-nil, Consumes-kept}
@@ -30,7 +30,7 @@ pub use Rattle.commands.specs.Sound.{is_sound, is_lot_id}
 pub use Rattle.commands.specs.Spelling.{key_text}
 unfoldable pub use Rattle.commands.specs.Spelling.{spelling}
 pub use Rattle.commands.specs.declared.command.Command.{Command}
-pub use Rattle.commands.specs.declared.command.Command.TheVariants.{Receive, Move, Count, Adjust, Pick, Unpick, Ship, Hold, Recall, OpenDay, Least}
+pub use Rattle.commands.specs.declared.command.Command.TheVariants.{Receive, OpenDay}
 pub use Rattle.commands.specs.declared.command.Receipt.{Receipt}
 pub use Rattle.commands.specs.declared.key.Key.{Key}
 pub use Rattle.commands.specs.declared.rows.CardKind.{CardKind}
@@ -44,10 +44,10 @@ pub use Rattle.texts.proofs.Beginnings.{beginning_of_first, beginning_of_second,
 pub use Rattle.texts.proofs.Starting.{told_as}
 pub use Rattle.machine.specs.Acts.{Act, next_number}
 pub use Rattle.machine.specs.Cards.{cards, card_line, card_lines}
-pub use Rattle.machine.specs.Ledger.{posting, written, cleared, shipped_off, lot_returned, returned, posted, postings}
+pub use Rattle.machine.specs.Ledger.{posted, postings}
 pub use Rattle.machine.specs.Once.{IsHistory}
-pub use Rattle.machine.specs.Postings.{Place, Supplier, InBin, Stage, Shipped, WriteOff, Posting, balance, is_bin, is_lot}
-pub use Rattle.machine.specs.Standing.{day_after_command, today, KnownLot, Placed, RETURNS, lots, lots_after, orders}
+pub use Rattle.machine.specs.Postings.{Place, Supplier, InBin, Stage, Shipped, WriteOff, Posting, is_lot}
+pub use Rattle.machine.specs.Standing.{day_after_command, today, KnownLot, lots, lots_after}
 pub use Rattle.machine.specs.Tables.{repeat_row, card_row, Tables}
 unfoldable pub use Rattle.machine.specs.Tables.{tables_of}
 pub use Rattle.machine.proofs.Tests.{is_lot_refl, and_both}

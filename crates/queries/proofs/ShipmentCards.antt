@@ -1,5 +1,6 @@
 -- The lines of a lot's card that are of shipments are of the lines of its shipments, one of each.
-use Rattle.queries.proofs.Words.{◌≡◌, ◌≤◌, ℕ, suc, ◌+◌, ◌-◌, Bool, true, false, ◌&&◌, List, [], ◌∷◌, ◌++◌, map, filter, find, reverse, Option, Some, None, inl, inr, refl, sym, ap, ◌∙◌, subst, arith, append-nil, eq-eqb, ℤ, pos, negsuc, neg_ℤ, not, ◌==◌, if◌then◌else◌, flat_map, AllByRecursion, cases_Bool, nat_tests, reverse-append, all-append, all_weaker, all-filter, LotId, total, Key, Command, Receive, Move, Count, Adjust, Pick, Unpick, Ship, Hold, Recall, OpenDay, Least, CardRow, ShipmentRow, ShiplineRow, Act, next_number, Place, Supplier, InBin, Stage, Shipped, WriteOff, Posting, balance, is_bin, is_lot, is_shipment, is_stage, units_in, units_out, posting, correction, written, cleared, lot_returned, returned, posted, postings, made_unshippable, cards, card_lines, KnownLot, Placed, RETURNS, lots, orders, shipments, shipments_so_far, today, staged_of_lot, if_any, IsHistory, card_of_lot, any_found, filter_appended, shipment_after, unknown_unstaged, unknown_shipment_is_empty, lots_apart, shipments_apart, card_of, found_line, found_wanted, is_of_shipment, IsLineOf, shipment_cards}
+use Rattle.queries.proofs.Words.{◌≡◌, ◌≤◌, ℕ, ◌+◌, Bool, true, false, ◌&&◌, List, [], ◌∷◌, ◌++◌, map, filter, find, reverse, Option, Some, None, inl, inr, refl, sym, ap, ◌∙◌, subst, arith, append-nil, eq-eqb, ℤ, pos, negsuc, neg_ℤ, not, ◌==◌, if◌then◌else◌, flat_map, AllByRecursion, cases_Bool, nat_tests, reverse-append, all-append, all_weaker, all-filter, LotId, total, Key, Command, Adjust, Ship, CardRow, ShipmentRow, ShiplineRow, Act, next_number, Place, Supplier, InBin, Stage, Shipped, WriteOff, Posting, balance, is_lot, is_shipment, units_in, units_out, posted, postings, cards, card_lines, lots, shipments, shipments_so_far, today, staged_of_lot, if_any, IsHistory, card_of_lot, any_found, filter_appended, shipment_after, unknown_unstaged, unknown_shipment_is_empty, lots_apart, shipments_apart, card_of, found_line, found_wanted, is_of_shipment, IsLineOf, shipment_cards}
+use Rattle.machine.proofs.histories.ActFacts.{Entry, Nothing, One, Corrected, ShippedOff, Returned, written_entry, entry_of, entry_posted, is_pick, IsStep, HasStep, step_of, Each, Shown, each_of_entry, all_returned}
 use Rattle.queries.proofs.CardOrder.{IsOne, one_line}
 use Rattle.queries.proofs.ShipmentOrder.{all_reversed, falling}
 
@@ -31,26 +32,43 @@ is_shipped _ = false
 abbrev pub Stays : Posting → Type 0
 Stays p = (is_shipped p.from ≡ false) × (is_shipped p.to ≡ false)
 
-pub stays_posting : (n : ℕ) (l : LotId) (from to : Place) (q : ℕ) → is_shipped from ≡ false → is_shipped to ≡ false → AllByRecursion Stays (posting n l from to q)
-stays_posting n l from to q f t = elim (cases_Bool (q == 0)) [ inl e ↦ rw e tt | inr e ↦ rw e ((f, t), tt) ]
+stays_step : (picks : Bool) (from to : Place) → IsStep picks from to → (is_shipped from ≡ false) × (is_shipped to ≡ false)
+stays_step picks Supplier (InBin b) h = (refl, refl)
+stays_step picks WriteOff (InBin b) h = (refl, refl)
+stays_step picks (InBin b) WriteOff h = (refl, refl)
+stays_step picks (InBin b) (InBin c) h = (refl, refl)
+stays_step picks (Stage o) (InBin b) h = (refl, refl)
+stays_step picks (InBin b) (Stage o) h = (refl, refl)
+stays_step picks _ _ h = absurd h
 
-module _ (n : ℕ) (ps : List Posting) where
-  stays_lot : (k : KnownLot) (os : List Placed) → AllByRecursion Stays (lot_returned n os ps k)
-  stays_lot k [] = tt
-  stays_lot k (p ∷ os) =
-      all-append Stays (cleared n ps (InBin RETURNS) p.order k.lot) (lot_returned n os ps k) (stays_posting n k.lot (Stage p.order) (InBin RETURNS) (balance (is_stage p.order) (is_lot k.lot) ps) refl refl) (stays_lot k os)
+abbrev is_shipment_entry : Entry → Bool
+is_shipment_entry (ShippedOff o) = true
+is_shipment_entry _ = false
 
-  pub stays_returned : (os : List Placed) (ks : List KnownLot) → AllByRecursion Stays (returned n ks os ps)
-  stays_returned os [] = tt
-  stays_returned os (k ∷ ks) = all-append Stays (lot_returned n os ps k) (returned n ks os ps) (stays_lot k os) (stays_returned os ks)
+abbrev pub ships_off : Command → Bool
+ships_off (Ship o) = true
+ships_off _ = false
 
-  pub stays_written : (l : LotId) (b : List ℕ) (z : ℤ) → AllByRecursion Stays (written n l b z)
-  stays_written l b (pos k) = stays_posting n l WriteOff (InBin b) k refl refl
-  stays_written l b (negsuc k) = stays_posting n l (InBin b) WriteOff (suc k) refl refl
+ships_nothing : (c : Command) → ships_off c ≡ false → is_shipment_entry (entry_of c) ≡ false
+ships_nothing (Ship o) e = let f : true ≡ false = e in cc
+ships_nothing (Adjust a) e = by_change a.change
+  where
+    by_change : (z : ℤ) → is_shipment_entry (written_entry a.lot a.bin z) ≡ false
+    by_change (pos k) = refl
+    by_change (negsuc k) = refl
+ships_nothing _ e = refl
 
-  pub stays_corrected : (l : LotId) (b : List ℕ) (have found : ℕ) → AllByRecursion Stays (correction n l b have found)
-  stays_corrected l b have found =
-      all-append Stays (posting n l WriteOff (InBin b) (found - have)) (posting n l (InBin b) WriteOff (have - found)) (stays_posting n l WriteOff (InBin b) (found - have) refl refl) (stays_posting n l (InBin b) WriteOff (have - found) refl refl)
+-- those of every act but a shipment
+pub stays_posted : (first : ℤ) (act : Act) (before : List Act) (ps : List Posting) (c : Command) → ships_off c ≡ false → Each Stays (posted first act before ps c)
+stays_posted first act before ps c e =
+    subst (Each Stays) (entry_posted first act before ps c) (each_of_entry Stays first act before ps (entry_of c) (shown (entry_of c) (step_of c) (ships_nothing c e)))
+  where
+    shown : (n : Entry) → HasStep (is_pick c) n → is_shipment_entry n ≡ false → Shown Stays first act before ps n
+    shown Nothing h e = tt
+    shown (One l from to q) h e = λ some. stays_step (is_pick c) from to h
+    shown (Corrected l b found) h e = (λ some. (refl, refl), λ some. (refl, refl))
+    shown (ShippedOff o) h e = absurd (let f : true ≡ false = e in cc)
+    shown Returned h e = all_returned Stays first act before ps (λ l o some. (refl, refl))
 
 module _ (n : ℕ) (lots : LotId → Bool) where
   elsewhere : (p : Place) → is_shipped p ≡ false → is_shipment n p ≡ false
@@ -60,16 +78,16 @@ module _ (n : ℕ) (lots : LotId → Bool) where
   elsewhere WriteOff e = refl
   elsewhere (Shipped m o) e = absurd (let f : true ≡ false = e in cc)
 
-  none_in : (qs : List Posting) → AllByRecursion Stays qs → units_in (is_shipment n) lots qs ≡ 0
+  none_in : (qs : List Posting) → Each Stays qs → units_in (is_shipment n) lots qs ≡ 0
   none_in [] all = refl
   none_in (q ∷ qs) all = let off = elsewhere q.to all.0.1 in let more = none_in qs all.1 in rw off (omega (arith, more))
 
-  none_out : (qs : List Posting) → AllByRecursion Stays qs → units_out (is_shipment n) lots qs ≡ 0
+  none_out : (qs : List Posting) → Each Stays qs → units_out (is_shipment n) lots qs ≡ 0
   none_out [] all = refl
   none_out (q ∷ qs) all = let off = elsewhere q.from all.0.0 in let more = none_out qs all.1 in rw off (omega (arith, more))
 
   -- they leave the units of a shipment
-  pub units_stay : (qs ps : List Posting) → AllByRecursion Stays qs → balance (is_shipment n) lots (qs ++ ps) ≡ balance (is_shipment n) lots ps
+  pub units_stay : (qs ps : List Posting) → Each Stays qs → balance (is_shipment n) lots (qs ++ ps) ≡ balance (is_shipment n) lots ps
   units_stay qs ps all =
       omega (
         arith,
@@ -90,7 +108,7 @@ module _ (first : ℤ) (act : Act) (before : List Act) where
   other_lines p (Stage o) (Shipped n u) t = absurd (let f : true ≡ false = t in cc)
   other_lines p _ _ t = tt
 
-  all_other : (qs : List Posting) → AllByRecursion Stays qs → AllByRecursion IsOther (flat_map (λ p. card_lines first act before p p.from p.to) qs)
+  all_other : (qs : List Posting) → Each Stays qs → AllByRecursion IsOther (flat_map (λ p. card_lines first act before p p.from p.to) qs)
   all_other [] all = tt
   all_other (q ∷ qs) all = all-append IsOther (card_lines first act before q q.from q.to) (flat_map (λ p. card_lines first act before p p.from p.to) qs) (other_lines q q.from q.to all.0.1) (all_other qs all.1)
 
@@ -139,7 +157,7 @@ module _ (first : ℤ) (l : LotId) where
         ∙ filter_appended is_of_shipment (card_of_lot first before l) (reverse own)
 
     -- an act that ships nothing
-    others : AllByRecursion Stays (posted first act before (postings first before) act.command) → shipments first (act ∷ before) ≡ shipments first before → AreTold before → AreTold (act ∷ before)
+    others : Each Stays (posted first act before (postings first before) act.command) → shipments first (act ∷ before) ≡ shipments first before → AreTold before → AreTold (act ∷ before)
     others stay same told =
         let none : filter is_of_shipment (reverse own) ≡ [] = by_few own (one_line first act before l (postings first before) act.command)
         (all-filter (IsOther first act before) (λ (c : CardRow). is_lot l c.lot) (flat_map (λ p. card_lines first act before p p.from p.to) (posted first act before (postings first before) act.command)) (all_other first act before (posted first act before (postings first before) act.command) stay)) in
@@ -245,27 +263,8 @@ module _ (first : ℤ) (l : LotId) where
   -- each act
   by_command : (before : List Act) (key : Key) (c : Command) → IsHistory first (record { key = key; command = c } ∷ before) → AllByRecursion (λ (r : ShipmentRow). r.number ≤ shipments_so_far first before) (shipments first before)
       → AreTold before → AreTold (record { key = key; command = c } ∷ before)
-  by_command before key (Receive r) next low = others (record { key = key; command = Receive r }) before (stays_posting (next_number before) r.lot Supplier (InBin r.bin) r.qty refl refl) refl
-  by_command before key (Move m) next low = others (record { key = key; command = Move m }) before (stays_posting (next_number before) m.lot (InBin m.from) (InBin m.to) m.qty refl refl) refl
-  by_command before key (Count c) next low =
-      others (record { key = key; command = Count c }) before (stays_corrected (next_number before) (postings first before) c.lot c.bin (balance (is_bin c.bin) (is_lot c.lot) (postings first before)) c.qty) refl
-  by_command before key (Adjust a) next low = others (record { key = key; command = Adjust a }) before (stays_written (next_number before) (postings first before) a.lot a.bin a.change) refl
-  by_command before key (Pick p) next low = others (record { key = key; command = Pick p }) before (stays_posting (next_number before) p.lot (InBin p.bin) (Stage p.order) p.qty refl refl) refl
-  by_command before key (Unpick p) next low = others (record { key = key; command = Unpick p }) before (stays_posting (next_number before) p.lot (Stage p.order) (InBin p.bin) p.qty refl refl) refl
   by_command before key (Ship o) next low = shipped before key o next low
-  by_command before key (Hold m) next low =
-      let act : Act = record { key = key; command = Hold m } in
-      others act before (stays_returned (next_number before) (postings first before) (orders before) (made_unshippable first act before)) refl
-  by_command before key (Recall m) next low =
-      let act : Act = record { key = key; command = Recall m } in
-      others act before (stays_returned (next_number before) (postings first before) (orders before) (made_unshippable first act before)) refl
-  by_command before key (OpenDay day) next low =
-      let act : Act = record { key = key; command = OpenDay day } in
-      others act before (stays_returned (next_number before) (postings first before) (orders before) (made_unshippable first act before)) refl
-  by_command before key (Least asked) next low =
-      let act : Act = record { key = key; command = Least asked } in
-      others act before (stays_returned (next_number before) (postings first before) (orders before) (made_unshippable first act before)) refl
-  by_command before key c next low = others (record { key = key; command = c }) before tt refl
+  by_command before key c next low = others (record { key = key; command = c }) before (stays_posted first (record { key = key; command = c }) before (postings first before) c refl) refl
 
   pub cards_told : (acts : List Act) → IsHistory first acts → AreTold acts
   cards_told [] history = tt

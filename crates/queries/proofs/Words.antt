@@ -61,12 +61,12 @@ pub use Rattle.commands.specs.declared.views.ShippedUnits.{ShippedUnits}
 pub use Rattle.machine.specs.Acts.{Act, next_number}
 pub use Rattle.machine.specs.Cards.{cards, card_line, card_lines, delivery_note, lot_units_in_house}
 pub use Rattle.machine.specs.KeyedRows.{no_two, AreRows, AreOwn}
-pub use Rattle.machine.specs.Ledger.{posting, correction, written, cleared, shipped_off, returned, posted, postings, made_unshippable, lot_returned}
+pub use Rattle.machine.specs.Ledger.{posting, correction, written, cleared, shipped_off, returned, posted, postings, made_unshippable}
 pub use Rattle.machine.specs.Once.{IsHistory}
 pub use Rattle.machine.specs.Planning.{is_open_state, is_open, order_state, staged_of_lot}
 pub use Rattle.machine.specs.Postings.{is_lot, Place, Supplier, InBin, Stage, Shipped, WriteOff, Posting, balance, is_bin, is_stage, is_shipment, units_in, units_out, of_item}
 pub use Rattle.machine.specs.Queries.{if_known}
-pub use Rattle.machine.specs.Standing.{KnownLot, bin_named, lots, lot_known, orders, shipments_so_far, today, Placed, order_named, lines_placed, item_named, shipments, RETURNS, shipments_after, has_order, has_line, items}
+pub use Rattle.machine.specs.Standing.{KnownLot, bin_named, lots, lot_known, orders, shipments_so_far, today, Placed, order_named, lines_placed, item_named, shipments, shipments_after, has_order, has_line, items}
 pub use Rattle.machine.specs.Tables.{meta_row, card_row, urgent_row, if_urgent, order_row, if_any, shipment_row, item_row}
 unfoldable pub use Rattle.machine.specs.Tables.{tables_of}
 pub use Rattle.machine.specs.Verdict.{verdict}

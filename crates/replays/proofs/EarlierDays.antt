@@ -1,5 +1,5 @@
 -- Acts that open a day before any receives: whatever earlier day they began on, their tables are the same.
-use Rattle.replays.proofs.Words.{◌≡◌, ◌≢◌, ℕ, ◌-◌, true, false, List, [], ◌∷◌, ◌++◌, flat_map, filter, map, Option, Some, None, refl, sym, ap, subst, ◌∙◌, arith, IsTrue, ℤ, pos, if◌then◌else◌, is_some, int_le, int_lt, ◌-ℤ◌, and_from, ints, same_Some, none-some, is_business_day, same_text, LotId, total, in_order, plan_rows, reserved_for, key_text, spelling, reply_text, Returned, UnitsShort, Key, Command, Item, Bin, Receive, Count, Adjust, Order, Pick, Ship, Hold, Release, Recall, OpenDay, Least, Urgent, ShipmentRow, Act, next_number, Place, Supplier, InBin, Stage, Shipped, WriteOff, Posting, of_item, KnownLot, lots, lots_of, lot_known, lot_among, is_shippable, order_named, lines_of, shipments, shipments_after, today, day_after_command, posted, postings, postings_of, Booking, bookings, need, demand_of, goes_before, supply_of, supplies, plan, reserved_of, reserved, short_of_order, cards, card_lines, further, verdict, IsHistory, IsAccepted, tables_of, repeat_row, and_both, room_for_acts, ship_accepted, day_accepted, AllKnown, known_postings, told_by, day_before, Start, Received, Opened, told_first, start_of, first_day, TheDayThatIsToldStands, none_older, untold_day, untold_lots, FindTheSame}
+use Rattle.replays.proofs.Words.{◌≡◌, ◌≢◌, ℕ, ◌-◌, true, false, List, [], ◌∷◌, ◌++◌, flat_map, filter, map, Option, Some, None, refl, sym, ap, subst, ◌∙◌, arith, IsTrue, ℤ, pos, if◌then◌else◌, is_some, int_le, int_lt, ◌-ℤ◌, and_from, ints, same_Some, none-some, is_business_day, same_text, LotId, total, in_order, plan_rows, reserved_for, key_text, spelling, reply_text, Returned, UnitsShort, Key, Command, Item, Bin, Receive, Count, Order, Pick, Ship, Hold, Release, Recall, OpenDay, Least, Urgent, ShipmentRow, Act, next_number, Place, Supplier, InBin, Stage, Shipped, WriteOff, Posting, of_item, KnownLot, lots, lots_of, lot_known, lot_among, is_shippable, order_named, lines_of, shipments, shipments_after, today, day_after_command, posted, postings, postings_of, Booking, bookings, need, demand_of, goes_before, supply_of, supplies, plan, reserved_of, reserved, short_of_order, cards, card_lines, further, verdict, IsHistory, IsAccepted, tables_of, repeat_row, and_both, room_for_acts, ship_accepted, day_accepted, AllKnown, known_postings, told_by, day_before, Start, Received, Opened, told_first, start_of, first_day, TheDayThatIsToldStands, none_older, untold_day, untold_lots, FindTheSame}
 use Rattle.replays.proofs.FirstDay.{first_day_told}
 use Rattle.whole_tables.specs.declared.key.TableName.TheVariants as table
 use Rattle.replays.proofs.Alike.{one_tables}
@@ -55,7 +55,6 @@ module _ (first second : ℤ) where
     told_untold : (key : Key) (c : Command) → shipments first before ≡ [] → shipments second before ≡ [] → told_by (next_number before) c ≡ None
         → further first (record { key = key; command = c }) before c ≡ further second (record { key = key; command = c }) before c
     told_untold key (Count c) s t e = rw (mine, theirs) refl
-    told_untold key (Adjust a) s t e = refl
     told_untold key (Order o) s t e = rw (mine, theirs, lots_none) refl
     told_untold key (Urgent o) s t e = rw (mine, theirs, lots_none) refl
     told_untold key (Ship o) s t e = rw (s, t) refl

@@ -27,7 +27,7 @@ pub use Rattle.commands.specs.Sound.{is_sound, is_sound_key}
 pub use Rattle.commands.specs.Spelling.{key_text}
 unfoldable pub use Rattle.commands.specs.Spelling.{spelling}
 pub use Rattle.commands.specs.declared.command.Command.{Command}
-pub use Rattle.commands.specs.declared.command.Command.TheVariants.{Item, Bin, Receive, Count, Adjust, Order, Pick, Ship, Hold, Release, Recall, OpenDay, Least, Urgent}
+pub use Rattle.commands.specs.declared.command.Command.TheVariants.{Item, Bin, Receive, Count, Order, Pick, Ship, Hold, Release, Recall, OpenDay, Least, Urgent}
 pub use Rattle.commands.specs.declared.key.Key.{Key}
 pub use Rattle.commands.specs.declared.refusal.Refusal.{Refusal}
 pub use Rattle.commands.specs.declared.replies.ReplyField.TheVariants.{Returned, UnitsShort}

@@ -1,5 +1,6 @@
 mod Words
 pub mod OneRow
+pub mod ByCommand
 pub mod PlanKept
 pub mod rows
 pub mod decided

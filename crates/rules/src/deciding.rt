@@ -66,6 +66,7 @@ fn refusal(slice: &Slice, command: &Command) -> Option<Refusal>
     judge(slice, command)
 }
 
+#[tactic(auto, using(crate::proofs::ByCommand::judged_as))]
 fn judge(slice: &Slice, command: &Command) -> Option<Refusal>
     ensures { result ≡ first_refusal (command_seen slice.now command.now) }
 {
@@ -91,6 +92,7 @@ fn judge(slice: &Slice, command: &Command) -> Option<Refusal>
 }
 
 // What the command changes, where it is accepted.
+#[tactic(auto, using(crate::proofs::ByCommand::changed_as))]
 fn change(alloc: Global, slice: &Slice, key: &Key, command: &Command) -> Result<Change, AllocError>
     ensures { IfOk result (λ change. change ≡ command_changes slice.now key.now command.now) }
 {

@@ -1,5 +1,6 @@
 -- The units of the rows of a history fit into their columns.
-use Rattle.store.proofs.Words.{◌≡◌, ℕ, zero, suc, ◌+◌, ◌-◌, ◌≤◌, Bool, true, false, ◌&&◌, List, [], ◌∷◌, find, Option, Some, None, refl, sym, ap, subst, ◌∙◌, arith, ℤ, pos, negsuc, neg_ℤ, decimal, ⊤, ◌==◌, ◌||◌, nat_le, is_some, if◌then◌else◌, flat_map, AllByRecursion, list_all, eqb-true, nat_tests, all-append, QTY_MAX, is_between, is_gtin, is_name, is_qty, is_counted, is_delta, same_text, LotId, is_sound, is_order_line, is_lot_id, is_day, OrderLine, Key, Command, Receive, Move, Count, Adjust, Pick, Unpick, Ship, Recall, OpenDay, ACTS_MAX, UNITS_MAX, CardKind, WriteOn, WrittenOff, Shipment, StockRow, LineRow, StagedRow, ReservedRow, ShipmentRow, ShiplineRow, CardRow, is_card_units, fits_row, stock_mapping, line_mapping, staged_mapping, reserved_mapping, shipment_mapping, shipline_mapping, card_mapping, Act, next_number, Place, Supplier, InBin, Stage, Shipped, WriteOff, Posting, balance, is_bin, is_stage, is_shipment, is_lot, posting, correction, written, cleared, shipped_off, lot_returned, returned, posted, postings, postings_of, made_unshippable, RETURNS, KnownLot, lots, Placed, orders, order_named, lines_placed, lines_of, is_cancelled, shipments, shipments_so_far, in_bin, staged_of_lot, item_postings, staged, shipped, shipped_of, reserved, cards, card_line, card_lines, delivery_note, lot_units_in_house, IsHistory, names_item_twice, if_any, stock_row, line_row, staged_row, reserved_row, shipline_row, card_row, any_found, and_both, some_one, same_text_refl, is_lot_item, shipment_after, IsPart, holds_split, served, served_is, served_within_ordered, unknown_shipment_is_empty, legal_history, ordered_within_limit, line_qty, needs_of_line, reserved_within_needs, unknown_is_unreserved, shipments_apart, AllSingle, orders_single, lot_within_limit, bin_within_limit, Stays, stays_posting, stays_returned, stays_written, stays_corrected, units_stay}
+use Rattle.store.proofs.Words.{◌≡◌, ℕ, zero, suc, ◌+◌, ◌-◌, ◌≤◌, Bool, true, false, ◌&&◌, List, [], ◌∷◌, find, Option, Some, None, refl, sym, ap, subst, ◌∙◌, arith, ℤ, pos, negsuc, neg_ℤ, decimal, ⊤, ◌==◌, ◌||◌, nat_le, is_some, if◌then◌else◌, flat_map, AllByRecursion, list_all, eqb-true, nat_tests, all-append, QTY_MAX, is_between, is_gtin, is_name, is_qty, is_counted, is_delta, same_text, LotId, is_sound, is_order_line, is_lot_id, is_day, OrderLine, Key, Command, Receive, Move, Count, Adjust, Pick, Unpick, Ship, Recall, OpenDay, ACTS_MAX, UNITS_MAX, CardKind, WriteOn, WrittenOff, Shipment, StockRow, LineRow, StagedRow, ReservedRow, ShipmentRow, ShiplineRow, CardRow, is_card_units, fits_row, stock_mapping, line_mapping, staged_mapping, reserved_mapping, shipment_mapping, shipline_mapping, card_mapping, Act, next_number, Place, Supplier, InBin, Stage, Shipped, WriteOff, Posting, balance, is_stage, is_shipment, is_lot, posting, correction, written, cleared, shipped_off, lot_returned, returned, posted, postings, postings_of, made_unshippable, RETURNS, KnownLot, lots, Placed, orders, order_named, lines_placed, lines_of, is_cancelled, shipments, shipments_so_far, in_bin, staged_of_lot, item_postings, staged, shipped, shipped_of, reserved, cards, card_line, card_lines, delivery_note, lot_units_in_house, IsHistory, names_item_twice, if_any, stock_row, line_row, staged_row, reserved_row, shipline_row, card_row, any_found, and_both, some_one, same_text_refl, is_lot_item, shipment_after, IsPart, holds_split, served, served_is, served_within_ordered, unknown_shipment_is_empty, legal_history, ordered_within_limit, line_qty, needs_of_line, reserved_within_needs, unknown_is_unreserved, shipments_apart, AllSingle, orders_single, lot_within_limit, bin_within_limit, Stays, stays_posted, units_stay}
+use Rattle.machine.proofs.histories.ActFacts.{Each}
 use Rattle.commands.specs.declared.command.Command.TheVariants.{Hold, Least}
 use Rattle.commands.specs.declared.rows.CardKind.TheVariants.{Receipt}
 use Rattle.store.proofs.ActsFit.{between, within, number_fits, found_has, mapped_has, lines_of_right, shipments_right}
@@ -126,25 +127,12 @@ module _ (first : ℤ) (l : LotId) where
   units_within [] h n = omega arith
   units_within (act ∷ before) h n = after (units_within before h.0 n) act.key act.command h
     where
-      kept : units_of before n ≤ QTY_MAX → (key : Key) (c : Command) → AllByRecursion Stays (posted first (record { key = key; command = c }) before (postings first before) c) → units_of (record { key = key; command = c } ∷ before) n ≤ QTY_MAX
+      kept : units_of before n ≤ QTY_MAX → (key : Key) (c : Command) → Each Stays (posted first (record { key = key; command = c }) before (postings first before) c) → units_of (record { key = key; command = c } ∷ before) n ≤ QTY_MAX
       kept low key c stay = omega (arith, units_stay n (is_lot l) (posted first (record { key = key; command = c }) before (postings first before) c) (postings first before) stay, low)
-
-      gone_back : (act : Act) → AllByRecursion Stays (returned (next_number before) (made_unshippable first act before) (orders before) (postings first before))
-      gone_back act = stays_returned (next_number before) (postings first before) (orders before) (made_unshippable first act before)
 
       after : units_of before n ≤ QTY_MAX → (key : Key) (c : Command) → IsHistory first (record { key = key; command = c } ∷ before) → units_of (record { key = key; command = c } ∷ before) n ≤ QTY_MAX
       after low key (Ship o) next = shipped_units before key o next n low
-      after low key (Receive r) next = kept low key (Receive r) (stays_posting (next_number before) r.lot Supplier (InBin r.bin) r.qty refl refl)
-      after low key (Move m) next = kept low key (Move m) (stays_posting (next_number before) m.lot (InBin m.from) (InBin m.to) m.qty refl refl)
-      after low key (Count c) next = kept low key (Count c) (stays_corrected (next_number before) (postings first before) c.lot c.bin (balance (is_bin c.bin) (is_lot c.lot) (postings first before)) c.qty)
-      after low key (Adjust a) next = kept low key (Adjust a) (stays_written (next_number before) (postings first before) a.lot a.bin a.change)
-      after low key (Pick p) next = kept low key (Pick p) (stays_posting (next_number before) p.lot (InBin p.bin) (Stage p.order) p.qty refl refl)
-      after low key (Unpick p) next = kept low key (Unpick p) (stays_posting (next_number before) p.lot (Stage p.order) (InBin p.bin) p.qty refl refl)
-      after low key (Hold m) next = kept low key (Hold m) (gone_back (record { key = key; command = Hold m }))
-      after low key (Recall m) next = kept low key (Recall m) (gone_back (record { key = key; command = Recall m }))
-      after low key (OpenDay day) next = kept low key (OpenDay day) (gone_back (record { key = key; command = OpenDay day }))
-      after low key (Least asked) next = kept low key (Least asked) (gone_back (record { key = key; command = Least asked }))
-      after low key _ next = low
+      after low key c next = kept low key c (stays_posted first (record { key = key; command = c }) before (postings first before) c refl)
 
   -- a shipment with units has the number of one
   number_within : (acts : List Act) → IsHistory first acts → (n : ℕ) → 1 ≤ units_of acts n → is_between 1 ACTS_MAX n ≡ true

@@ -74,7 +74,7 @@ pub use Rattle.machine.specs.Ledger.{posting, correction, written, cleared, ship
 pub use Rattle.machine.specs.Machine.{AllSound}
 pub use Rattle.machine.specs.Once.{IsHistory, is_key_of, bearer, outcome, acts_after, appended, judged, Outcome, Accepted, Repeated, IsSoundRequest, tallied, unless_refused, all_tallied, file_outcome_of, acts_after_file, acts_if_taken, Earlier, told_again}
 pub use Rattle.machine.specs.Planning.{in_bin, staged_of_lot, item_postings, staged, shipped, shipped_of, reserved}
-pub use Rattle.machine.specs.Postings.{Place, Supplier, InBin, Stage, Shipped, WriteOff, Posting, balance, is_bin, is_stage, is_shipment, is_lot}
+pub use Rattle.machine.specs.Postings.{Place, Supplier, InBin, Stage, Shipped, WriteOff, Posting, balance, is_stage, is_shipment, is_lot}
 pub use Rattle.machine.specs.Queries.{notice_shown, order_shown, short_shown, stock_shown}
 pub use Rattle.machine.specs.Replies.{reply}
 pub use Rattle.machine.specs.Schemas.{are_of_schema}
@@ -175,7 +175,7 @@ pub use Rattle.queries.specs.Asked.{Asking, IsKnownOf}
 pub use Rattle.queries.specs.ShownActs.{acts_shown}
 pub use Rattle.queries.specs.ShownNotice.{whole}
 pub use Rattle.queries.proofs.CardOrder.{card_lines_of}
-pub use Rattle.queries.proofs.ShipmentCards.{Stays, stays_posting, stays_returned, stays_written, stays_corrected, units_stay}
+pub use Rattle.queries.proofs.ShipmentCards.{Stays, stays_posted, units_stay}
 pub use Rattle.queries.proofs.ShipmentOrder.{acts_within}
 pub use Rattle.changes.specs.Written.{puts, drops, stage_emptied, emptied, table_written}
 unfoldable pub use Rattle.changes.specs.Written.{change_written, change_made}
