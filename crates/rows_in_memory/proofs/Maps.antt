@@ -8,6 +8,11 @@ kept_in all some more (Some v) = refl
 kept_in all true more None = ap (λ b. if b then Some [] else None) (more refl)
 kept_in all false more None = tt
 
+-- where all rows are known, those of each list are
+known_whole : {R : Type 0} (all : Bool) → all ≡ true → (x : Option (Vec R Global)) → (rows : List R) × (rows_in all x ≡ Some rows)
+known_whole all is (Some v) = (v.items, refl)
+known_whole all is None = ([], ap (λ b. if b then Some [] else None) is)
+
 module _ {K R : Type 0} (cmp : K → K → Ordering) where
   -- the lists with another one under a key
   abbrev pub Becomes : K → Option (Vec R Global) → BTreeMap K (Vec R Global) → BTreeMap K (Vec R Global) → Type 0
@@ -73,6 +78,18 @@ module _ {K R : Type 0} (cmp : K → K → Ordering) where
         chosen : (b : Bool) → is_eq (cmp own q) ≡ b → Changed q (rows_at cmp new q)
         chosen true e = subst (Changed q) (sym (ap (rows_in new.whole) (becomes q ∙ ap (λ b. cond b None (get cmp old.lists q)) e) ∙ ap (λ w. rows_in w None) some)) tt
         chosen false e = other q e (rows_at cmp new q) (was_known old new (λ w. let no : true ≡ false = sym w ∙ some in cc) q (becomes q ∙ ap (λ b. cond b None (get cmp old.lists q)) e))
+
+    -- it is gone, and there are no rows under the key where all are known
+    pub changes_emptied : ((rows : List R) → change rows ≡ []) → (new : RowMap K R) → AreWhole old new → Becomes own None old.lists new.lists → ChangesAt cmp k change old new
+    changes_emptied empties new more becomes q = chosen (is_eq (cmp own q)) refl
+      where
+        emptied : is_eq (cmp own q) ≡ true → (w : Bool) → (w ≡ true → old.whole ≡ true) → Changed q (rows_in w None)
+        emptied e true whole = let was = known_whole old.whole (whole refl) (get cmp old.lists q) in here q e was.0 [] was.1 (sym (empties was.0))
+        emptied e false whole = tt
+
+        chosen : (b : Bool) → is_eq (cmp own q) ≡ b → Changed q (rows_at cmp new q)
+        chosen true e = subst (Changed q) (sym (ap (rows_in new.whole) (becomes q ∙ ap (λ b. cond b None (get cmp old.lists q)) e))) (emptied e new.whole more)
+        chosen false e = other q e (rows_at cmp new q) (was_known old new more q (becomes q ∙ ap (λ b. cond b None (get cmp old.lists q)) e))
 
     -- or it is changed in its place
     pub changes_in : ((a b : K) → is_eq (cmp a b) ≡ true → a ≡ b) → (new : RowMap K R) → AreWhole old new → (v w : Vec R Global) → Some v ≡ get_by (cmp own) old.lists → w.items ≡ change v.items → Becomes own (Some w) old.lists new.lists → ChangesAt cmp k change old new

@@ -72,6 +72,16 @@ impl<B: Copy, K: KeyOf<B>, R: Has<B>> KnownRows<B, K, R> {
         }
     }
 
+    /// No rows are sought by this any more: its list goes, and where all rows are known it is known that there are none. It takes
+    /// no memory.
+    pub fn empty(&mut self, by: &B)
+        ensures { ChangesAt K.cmp (K.key by.now) (λ rows. []) self.old.rows self.new.rows }
+    {
+        if let Some(rows) = self.rows.lists.remove(&K::of(by)) {
+            self.weight -= weight_of(&rows);
+        }
+    }
+
     /// Forgets what is known of the rows that are sought with one of these. It takes no memory.
     pub fn forget_all(&mut self, rows: &[R])
         ensures { ForgetsBy K.cmp (λ r. K.key (R.of_row r)) rows.now self.old.rows self.new.rows }
@@ -91,7 +101,6 @@ impl<B: Copy, K: KeyOf<B>, R: Has<B>> KnownRows<B, K, R> {
             whole,
         };
         self.weight = 0;
-        self.too_many = false;
     }
 
     // Forgets all, where too much is known.
@@ -123,7 +132,6 @@ impl<B: Copy, K: KeyOf<B>, R: Has<B>> KnownRows<B, K, R> {
     {
         if self.rows.whole && self.weight > WEIGHT_MAX {
             self.rows.whole = false;
-            self.too_many = true;
         }
     }
 }
@@ -237,12 +245,13 @@ impl<B: Copy, K: KeyOf<B> + ExactKey, R: Has<B> + KeyedRow> KnownRows<B, K, R> {
     pub fn keep_all(&mut self, rows: &[R])
         ensures { KnowsAll K.cmp (λ r. K.key (R.of_row r)) rows.now self.old.rows self.new.rows }
     {
-        if rows.len() as u64 > WEIGHT_MAX {
-            self.too_many = true;
+        self.too_many = rows.len() as u64 > WEIGHT_MAX;
+        if self.too_many {
             return;
         }
         self.begin_anew(true);
         self.place_all(rows);
+        self.too_many = self.weight > WEIGHT_MAX;
         self.bound_whole();
     }
 

@@ -66,7 +66,7 @@ fn keep_all(rt: &impl Abort, alloc: Global, known: &mut UrgentsKnown, count: u64
     known.keep_all(rows.as_slice());
 }
 
-// Where all rows are known, an order without a list is known to have none, until it gets one.
+// Where all rows are known, an order without a list is known to have none, until it gets one, and again once that is emptied.
 #[test]
 fn all_rows_are_known(rt: HostRuntime) {
     let alloc = rt.alloc();
@@ -79,6 +79,9 @@ fn all_rows_are_known(rt: HostRuntime) {
     assert!(rt; rows_of(&rt, alloc, &known, 2) == Some(0));
     known.put(&urgent(&rt, alloc, 2));
     assert!(rt; rows_of(&rt, alloc, &known, 2) == Some(1));
+    known.empty(&numbered(&rt, alloc, 2));
+    assert!(rt; rows_of(&rt, alloc, &known, 2) == Some(0));
+    assert!(rt; !known.wants_all());
     known.drop_row(&urgent(&rt, alloc, 1));
     assert!(rt; rows_of(&rt, alloc, &known, 1) == Some(0));
     known.forget(&numbered(&rt, alloc, 2));
@@ -87,15 +90,21 @@ fn all_rows_are_known(rt: HostRuntime) {
     assert!(rt; rows_of(&rt, alloc, &known, 3).is_none());
 }
 
-// 32,768 of one row each are at the bound. With one more the lists are known, and not that they have all rows.
+// 32,768 of one row each are at the bound. With one more the lists are known, and not that they have all rows. These were then
+// too many, also once they are forgotten.
 #[test]
 fn all_rows_have_a_bound(rt: HostRuntime) {
     let alloc = rt.alloc();
     let mut known: UrgentsKnown = KnownRows::new(alloc);
     keep_all(&rt, alloc, &mut known, 32_768);
     assert!(rt; rows_of(&rt, alloc, &known, 32_768) == Some(0));
+    known.put_all(&[urgent(&rt, alloc, 32_768)]);
+    assert!(rt; known.wants_all());
     keep_all(&rt, alloc, &mut known, 32_769);
     assert!(rt; rows_of(&rt, alloc, &known, 32_768) == Some(1));
     assert!(rt; rows_of(&rt, alloc, &known, 32_769).is_none());
+    assert!(rt; !known.wants_all());
+    known.keep(&numbered(&rt, alloc, 32_769), Vec::new(alloc));
+    assert!(rt; rows_of(&rt, alloc, &known, 32_768).is_none());
     assert!(rt; !known.wants_all());
 }
