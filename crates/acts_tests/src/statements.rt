@@ -56,12 +56,12 @@ static CASES: [Case; 6] = [
         reads: 4,
         writes: 11,
     },
-    // The first pick for it. Sought are the stage, and what is reserved for the order: the line is among those of the order.
-    // Written are the stock, the stage and what is reserved.
+    // The first pick for it. Sought is all that is reserved: all that is staged is known, and the line is among those of the
+    // order. Written are the stock, the stage and what is reserved.
     Case {
         act: "K/P-~|PICK|O-1|#|L-1|A-01|5",
         numbers: (0, 1),
-        reads: 3,
+        reads: 2,
         writes: 5,
     },
     // The other picks. All that they seek beside their keys is known.
@@ -239,9 +239,8 @@ pub(crate) fn are_counted<S: Alter>(
     }
     counts.take();
     are_cases(rt, alloc, books, counts);
-    // All that is reserved, and all lots of the item. All else of it is known, and then these too. Of another item only its lots
-    // are not.
-    is_shown_by(rt, alloc, books, counts, 0, 2);
+    // All lots of the item. All else of it is known, and then these too. So it is of another item.
+    is_shown_by(rt, alloc, books, counts, 0, 1);
     is_shown_by(rt, alloc, books, counts, 0, 0);
     is_shown_by(rt, alloc, books, counts, 1, 1);
     is_first(rt, alloc, books, counts);

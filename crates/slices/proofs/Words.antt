@@ -108,7 +108,7 @@ pub use Rattle.tables.specs.Urgents.{AreUrgentsOf}
 pub use Rattle.slices.specs.Books.{IsBooksOf}
 pub use Rattle.slices.specs.Bounding.{IsAtMost, AreBounds, IsToldNumber, with_counts, IsRaised}
 pub use Rattle.slices.specs.ByLot.{AreLotsOf}
-pub use Rattle.slices.specs.Following.{KnowsFollowed, KnowsNoneFollowed, KnowsMeta, StageForgotten, StageLeft}
+pub use Rattle.slices.specs.Following.{KnowsFollowed, KnowsNoneFollowed, KnowsMeta, StageEmptied, StageLeft}
 pub use Rattle.slices.specs.Reading.{IsCount, Each, IsRead, Knowing}
 pub use Rattle.slices.specs.Remembering.{KnowsRows, KnowsNoRows, Learning, ForgetsPut, IsAlone, LearnsEach}
 pub use Rattle.slices.specs.Slicing.{AreCounts, is_among, is_passed, is_open_in, with_names, other_names, has_urgent_row, urgent_lines, opens, opened_by, comes, Covers, CoversUrgent, AreAllLines, AreUrgents, AreNamed, AreKnownOrders, AreOpenLines, AreLinesPut, AreUrgentsPut, Knows, is_ending, items_of_lots, AreEnding, AreAffected, listed, has_line_in, AreLinesOfItem, AreLinesOfItems, AreOrders, HoldsOf, ArePicked, AreLinesOf, AreLinesFor, lots_on_stage, AreShipped, IsSliceOf, IsSliceIn, AreSliced, orders_named, with_some, items_named, lots_named, bins_named, whole_orders, held_lots, AreTaken, AreTouched, ArePlanned, with_name, names_among, names_at, AreUrgentsFor, with_staged, not_recalled, AreStaged, AreBins, AreGoods}

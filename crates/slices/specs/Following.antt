@@ -1,8 +1,8 @@
 -- The rows that are known, and that follow what is written.
-use Rattle.std.specs.Prelude.{◌≡◌, ◌⊎◌, ℕ, List, reverse, Option, Some, None, IfSome}
+use Rattle.std.specs.Prelude.{◌≡◌, ◌⊎◌, ℕ, List, [], reverse, Option, Some, None, IfSome}
 use Rattle.std.specs.Ordering.{nat_cmp}
 use Rattle.std.specs.Cmp.Lexicographic.{slice_cmp}
-use Rattle.slices.specs.Words.{Tables, LineRow, LotRow, MetaRow, OrderRow, ReservedRow, StagedRow, StockRow, UrgentRow, Put, RowMap, rows_at, KnowsNone, ForgetsAt, ChangesBy, Remembers, with_put, without_row}
+use Rattle.slices.specs.Words.{Tables, LineRow, LotRow, MetaRow, OrderRow, ReservedRow, StagedRow, StockRow, UrgentRow, Put, RowMap, rows_at, KnowsNone, ChangesAt, ChangesBy, Remembers, with_put, without_row}
 use Rattle.values.specs.declared.lot_key.LotKey.{LotKey}
 use Rattle.rows_in_memory.specs.LotOrder.{lot_key as turned_lot, lot_key_cmp}
 use Rattle.rows_in_memory.specs.declared.line_keys.LineKey.{LineKey}
@@ -149,10 +149,10 @@ StageLeft (Some order) stages old new = StageGone order stages old new
 abbrev pub StagedFollows : Put → Dropped → (stages old new : RowMap (List ℕ) StagedRow) → Type 0
 StagedFollows puts drops stages old new = (mid : RowMap (List ℕ) StagedRow) × StageLeft drops.stage stages old mid × StagedChanges puts drops mid new
 
--- nothing is known by an order whose stage was emptied
-abbrev pub StageForgotten : Option (List ℕ) → RowMap (List ℕ) StagedRow → RowMap (List ℕ) StagedRow → Type 0
-StageForgotten None old new = new ≡ old
-StageForgotten (Some order) old new = ForgetsAt (slice_cmp nat_cmp) (reverse order) old new
+-- by an order whose stage was emptied there are no rows
+abbrev pub StageEmptied : Option (List ℕ) → RowMap (List ℕ) StagedRow → RowMap (List ℕ) StagedRow → Type 0
+StageEmptied None old new = new ≡ old
+StageEmptied (Some order) old new = ChangesAt (slice_cmp nat_cmp) (reverse order) (λ rows. []) old new
 
 abbrev pub StagedForDropped : Dropped → RowMap (List ℕ) StagedRow → RowMap (List ℕ) StagedRow → Type 0
 StagedForDropped drops old new = ChangesBy (slice_cmp nat_cmp) (λ (r : StagedRow). reverse r.order) (without_row same_staged_row) drops.staged old new
@@ -161,7 +161,7 @@ abbrev pub StagedForPut : Put → RowMap (List ℕ) StagedRow → RowMap (List �
 StagedForPut puts old new = ChangesBy (slice_cmp nat_cmp) (λ (r : StagedRow). reverse r.order) (with_put same_staged_row) puts.staged old new
 
 abbrev pub StagedForFollows : Put → Dropped → RowMap (List ℕ) StagedRow → RowMap (List ℕ) StagedRow → Type 0
-StagedForFollows puts drops old new = (left : RowMap (List ℕ) StagedRow) × (mid : RowMap (List ℕ) StagedRow) × StageForgotten drops.stage old left × StagedForDropped drops left mid × StagedForPut puts mid new
+StagedForFollows puts drops old new = (left : RowMap (List ℕ) StagedRow) × (mid : RowMap (List ℕ) StagedRow) × StageEmptied drops.stage old left × StagedForDropped drops left mid × StagedForPut puts mid new
 
 abbrev pub ReservedDropped : Dropped → RowMap (List ℕ) ReservedRow → RowMap (List ℕ) ReservedRow → Type 0
 ReservedDropped drops old new = ChangesBy (slice_cmp nat_cmp) (λ (r : ReservedRow). reverse r.lot.gtin) (without_row same_reserved_row) drops.reserved old new

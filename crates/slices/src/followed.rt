@@ -1,7 +1,7 @@
 //! Rows that are known, and that follow what is written.
 
 ghost use Rattle.std.specs.Prelude.{◌≡◌, Some};
-ghost use Rattle.slices.specs.Following.{KnowsNoneFollowed, StockFollows, StagedChanges, StageGone, StageLeft, StagedFollows, StageForgotten, StagedForFollows, ReservedFollows, ReservedForFollows, Follows};
+ghost use Rattle.slices.specs.Following.{KnowsNoneFollowed, StockFollows, StagedChanges, StageGone, StageLeft, StagedFollows, StageEmptied, StagedForFollows, ReservedFollows, ReservedForFollows, Follows};
 
 use commands::{LineRow, LotRow, MetaRow, OrderRow, ReservedRow, StagedRow, StockRow, UrgentRow};
 use rows_in_memory::{KnownRows, LineKey};
@@ -97,12 +97,12 @@ fn follow_staged(
     change_staged(staged, put, dropped);
 }
 
-/// Nothing is known by the order whose stage a change empties, if it empties one.
-fn forget_stage(stages: &mut KnownRows<Name, TextKey, StagedRow>, stage: Option<Name>)
-    ensures { StageForgotten stage stages.old.rows stages.new.rows }
+/// Without the stage that a change empties, if it empties one, by the order.
+fn empty_stage_for(stages: &mut KnownRows<Name, TextKey, StagedRow>, stage: Option<Name>)
+    ensures { StageEmptied stage stages.old.rows stages.new.rows }
 {
     if let Some(order) = stage {
-        stages.forget(&order);
+        stages.empty(&order);
     }
 }
 
@@ -110,7 +110,7 @@ fn forget_stage(stages: &mut KnownRows<Name, TextKey, StagedRow>, stage: Option<
 fn follow_staged_for(stages: &mut KnownRows<Name, TextKey, StagedRow>, put: &Put, dropped: &Dropped)
     ensures { StagedForFollows put.now dropped.now stages.old.rows stages.new.rows }
 {
-    forget_stage(stages, dropped.stage);
+    empty_stage_for(stages, dropped.stage);
     stages.drop_all(dropped.staged.as_slice());
     stages.put_all(put.staged.as_slice());
 }

@@ -86,7 +86,7 @@ pub fn seek_stock_of_lots<S: Alter>(
     Ok(found)
 }
 
-// All that is staged is known by the item from then on, if it is not too much.
+// All that is staged is known by the item and by the order from then on, if it is not too much.
 fn know_staged<S: Alter>(
     alloc: Global,
     tx: &mut Transaction<'_, S>,
@@ -95,9 +95,11 @@ fn know_staged<S: Alter>(
     ensures same_reference { tx.new.conn.ghost_name ≡ tx.old.conn.ghost_name }
     ensures read { IsRead (Learning rows.old rows.new (λ t u. ⊤)) (state S.Store tx.old.conn.now) (state S.Store tx.new.conn.now) result }
 {
-    if rows.followed.staged.wants_all() {
-        let all = read_rows::<Staged, All, S>(alloc, tx, &All)?;
-        rows.followed.staged.keep_all(all.as_slice());
+    if rows.followed.staged.wants_all() || rows.followed.staged_for.wants_all() {
+        let found = read_rows::<Staged, All, S>(alloc, tx, &All)?;
+        let all = found.as_slice();
+        rows.followed.staged.keep_all(all);
+        rows.followed.staged_for.keep_all(all);
     }
     Ok(())
 }
@@ -116,7 +118,7 @@ pub fn seek_staged<S: Alter>(
     seek_all_known::<Staged, Gtin, TextKey, S>(alloc, tx, &mut rows.followed.staged, gtins)
 }
 
-/// What is staged for an order.
+/// What is staged for an order, among all that is staged.
 pub fn seek_staged_for<S: Alter>(
     alloc: Global,
     tx: &mut Transaction<'_, S>,
@@ -126,6 +128,7 @@ pub fn seek_staged_for<S: Alter>(
     ensures same_reference { tx.new.conn.ghost_name ≡ tx.old.conn.ghost_name }
     ensures read { IsRead (Learning rows.old rows.new (λ t found. AreStagedOfOrder order.now t found.items)) (state S.Store tx.old.conn.now) (state S.Store tx.new.conn.now) result }
 {
+    know_staged(alloc, tx, rows)?;
     seek_known::<Staged, Name, TextKey, S>(alloc, tx, &mut rows.followed.staged_for, order)
 }
 
@@ -144,7 +147,7 @@ pub fn seek_staged_of<S: Alter>(
     Ok(own)
 }
 
-// All that is reserved is known by the item from then on, if it is not too much.
+// All that is reserved is known by the item and by the order from then on, if it is not too much.
 fn know_reserved<S: Alter>(
     alloc: Global,
     tx: &mut Transaction<'_, S>,
@@ -153,9 +156,11 @@ fn know_reserved<S: Alter>(
     ensures same_reference { tx.new.conn.ghost_name ≡ tx.old.conn.ghost_name }
     ensures read { IsRead (Learning rows.old rows.new (λ t u. ⊤)) (state S.Store tx.old.conn.now) (state S.Store tx.new.conn.now) result }
 {
-    if rows.followed.reserved.wants_all() {
-        let all = read_rows::<Reserved, All, S>(alloc, tx, &All)?;
-        rows.followed.reserved.keep_all(all.as_slice());
+    if rows.followed.reserved.wants_all() || rows.followed.reserved_for.wants_all() {
+        let found = read_rows::<Reserved, All, S>(alloc, tx, &All)?;
+        let all = found.as_slice();
+        rows.followed.reserved.keep_all(all);
+        rows.followed.reserved_for.keep_all(all);
     }
     Ok(())
 }
@@ -174,7 +179,7 @@ pub fn seek_reserved<S: Alter>(
     seek_all_known::<Reserved, Gtin, TextKey, S>(alloc, tx, &mut rows.followed.reserved, gtins)
 }
 
-/// What is reserved for an order.
+/// What is reserved for an order, among all that is reserved.
 pub fn seek_reserved_for<S: Alter>(
     alloc: Global,
     tx: &mut Transaction<'_, S>,
@@ -184,6 +189,7 @@ pub fn seek_reserved_for<S: Alter>(
     ensures same_reference { tx.new.conn.ghost_name ≡ tx.old.conn.ghost_name }
     ensures read { IsRead (Learning rows.old rows.new (λ t found. AreReservedOfOrder order.now t found.items)) (state S.Store tx.old.conn.now) (state S.Store tx.new.conn.now) result }
 {
+    know_reserved(alloc, tx, rows)?;
     seek_known::<Reserved, Name, TextKey, S>(alloc, tx, &mut rows.followed.reserved_for, order)
 }
 
