@@ -1,7 +1,7 @@
 -- The rows that follow what is written are those of the tables that a change leaves.
-use Rattle.store.proofs.Words.{◌≡◌, ℕ, Bool, false, inl, inr, List, refl, sym, ap, subst, ◌∙◌, if◌then◌else◌, reverse, Option, Some, None, IfSome, nat_cmp, is_eq, Ordering, slice_cmp, same_text, Tables, MetaRow, RepeatRow, StagedRow, AreRows, same_lot, same_line, same_staged, staged_key, with_repeat, without_staged, Change, turned_line, line_key_cmp, lines_told, turned_lot, lot_key_cmp, lots_told, names_told, with_row, without_row, each_written, AreStagedOfItem, AreStagedOfOrder, staged_laws, TableName, Meta, Lots, Orders, Urgents, Lines, Stock, Staged, Reserved, family, Row, described, look, puts, drops, stage_emptied, emptied, table_written, change_written, table_left, is_at, are_same, RowMap, rows_at, ChangesBy, Remembers, with_put, without_listed, remembers_none, known_as, known_put, known_dropped, KnowsStaged, KnowsStagedFor, KnowsMeta, KnowsFollowed, StageLeft, StagedFollows, StageForgotten, StagedForFollows, Follows, Followed}
+use Rattle.store.proofs.Words.{◌≡◌, ℕ, Bool, inl, inr, List, [], refl, sym, ap, subst, ◌∙◌, if◌then◌else◌, reverse, Option, Some, None, IfSome, nat_cmp, is_eq, Ordering, slice_cmp, same_text, Tables, MetaRow, RepeatRow, StagedRow, AreRows, same_lot, same_line, same_staged, staged_key, with_repeat, without_staged, Change, turned_line, line_key_cmp, lines_told, turned_lot, lot_key_cmp, lots_told, names_told, with_row, without_row, each_written, AreStagedOfItem, AreStagedOfOrder, staged_laws, TableName, Meta, Lots, Orders, Urgents, Lines, Stock, Staged, Reserved, family, Row, described, look, puts, drops, stage_emptied, emptied, table_written, change_written, table_left, is_at, are_same, RowMap, rows_at, ChangesBy, Remembers, with_put, without_listed, remembers_none, known_as, known_put, known_dropped, KnowsStaged, KnowsStagedFor, KnowsMeta, KnowsFollowed, StageLeft, StagedFollows, StageEmptied, StagedForFollows, Follows, Followed}
 use Rattle.whole_tables.specs.Family.{Key}
-use Rattle.store.proofs.StageEmptied.{staged_at, without_order, rows_gone, others_stay}
+use Rattle.store.proofs.StageEmptied.{staged_at, without_order, rows_gone, rows_left}
 
 -- What is known of one table, with the rows that are dropped from it and put into it, is known of what is written
 
@@ -62,20 +62,20 @@ module _ (c : Change) (row : RepeatRow) (t : Tables) where
   by_name = known_as (slice_cmp nat_cmp) reverse same_text names_told same_staged staged_key staged_laws.itself staged_laws.one_key staged_at (λ o k. same_text o k.0) (λ r. r.order) (λ by r. refl)
 
   -- and by the order
-  stage_forgotten : (stage : Option (List ℕ)) → c.dropped.stage ≡ stage → (old new : RowMap (List ℕ) StagedRow) → StageForgotten stage old new → KnowsStagedFor t old → KnowsStagedFor emptied_left new
-  stage_forgotten None is old new same known by = by_name t emptied_left (sym (none_emptied is)) new (subst (KnowsStagedFor t) (sym same) known) by
-  stage_forgotten (Some order) is old new forgets known by = told (rows_at (slice_cmp nat_cmp) new (reverse by)) (forgets (reverse by))
+  stage_gone : (stage : Option (List ℕ)) → c.dropped.stage ≡ stage → (old new : RowMap (List ℕ) StagedRow) → StageEmptied stage old new → KnowsStagedFor t old → KnowsStagedFor emptied_left new
+  stage_gone None is old new same known by = by_name t emptied_left (sym (none_emptied is)) new (subst (KnowsStagedFor t) (sym same) known) by
+  stage_gone (Some order) is old new changes known by = told (rows_at (slice_cmp nat_cmp) new (reverse by)) (changes (reverse by))
     where
-      told : (x : Option (List StagedRow)) → IfSome x (λ found. (rows_at (slice_cmp nat_cmp) old (reverse by) ≡ Some found) × (is_eq (slice_cmp nat_cmp (reverse order) (reverse by)) ≡ false)) → IfSome x (AreStagedOfOrder by emptied_left)
+      told : (x : Option (List StagedRow)) → IfSome x (λ found. (before : List StagedRow) × (rows_at (slice_cmp nat_cmp) old (reverse by) ≡ Some before) × (found ≡ (if is_eq (slice_cmp nat_cmp (reverse order) (reverse by)) then [] else before))) → IfSome x (AreStagedOfOrder by emptied_left)
       told None h = tt
       told (Some rows) h =
-          let were : AreStagedOfOrder by t rows = subst (λ (y : Option (List StagedRow)). IfSome y (AreStagedOfOrder by t)) h.0 (known by) in
-          others_stay order t emptied_left (one_emptied order is) by (sym (names_told by order) ∙ h.1) rows were
+          let were : AreStagedOfOrder by t h.0 = subst (λ (y : Option (List StagedRow)). IfSome y (AreStagedOfOrder by t)) h.1 (known by) in
+          subst (AreStagedOfOrder by emptied_left) (sym (h.2 ∙ ap (λ b. if b then [] else h.0) (names_told by order))) (rows_left order t emptied_left (one_emptied order is) by h.0 were)
 
   staged_for_followed : (old new : RowMap (List ℕ) StagedRow) → StagedForFollows c.put c.dropped old new → KnowsStagedFor t old → KnowsStagedFor left new
-  staged_for_followed old new (first, mid, forgets, drops, puts) known =
+  staged_for_followed old new (first, mid, empties, drops, puts) known =
       changed_known (slice_cmp nat_cmp) reverse same_text names_told Staged (λ o k. same_text o k.0) (λ r. r.order) (λ by r. refl) c t left (table_left c t Staged) first new (mid, drops, puts)
-      (stage_forgotten c.dropped.stage refl old first forgets known)
+      (stage_gone c.dropped.stage refl old first empties known)
 
   pub followed_written : (old new : Followed) → Follows c old new → KnowsFollowed t old → KnowsFollowed left new
   followed_written old new follows known = record {

@@ -157,7 +157,7 @@ pub use Rattle.whole_tables.proofs.Handing.{typed_are_all}
 pub use Rattle.whole_tables.proofs.Owned.{owned}
 pub use Rattle.slices.specs.Books.{IsBooksOf}
 pub use Rattle.slices.specs.Bounding.{IsAtMost, AreBounds, IsRaised}
-pub use Rattle.slices.specs.Following.{KnowsStaged, KnowsStagedFor, KnowsMeta, KnowsFollowed, StageLeft, StagedFollows, StageForgotten, StagedForFollows, Follows}
+pub use Rattle.slices.specs.Following.{KnowsStaged, KnowsStagedFor, KnowsMeta, KnowsFollowed, StageLeft, StagedFollows, StageEmptied, StagedForFollows, Follows}
 pub use Rattle.slices.specs.Reading.{IsRead}
 pub use Rattle.slices.specs.Remembering.{ForgetsPut, KnowsRows, KnowsNoRows}
 pub use Rattle.slices.specs.Slicing.{is_among, HoldsOf, HoldsBeside, Knows, is_passed, is_open_in, has_urgent_row, opens, comes, Covers, CoversUrgent}
