@@ -241,16 +241,18 @@ fn reads_twice(host: &HostRuntime, rt: &impl Abort, case: &Case) -> (u64, u64) {
 
 fn reads_less(host: &HostRuntime, rt: &impl Abort, case: &Case) {
     let (first, second) = reads_twice(host, rt, case);
+    let asked = lines_of(host, rt, case.asked);
     assert!(rt;
         first >= second.saturating_add(case.saved),
-        "{first} and then {second}"
+        "{asked:?}: {first} and then {second}"
     );
 }
 
 // Fewer pages are read than there are orders and lines of theirs.
 fn reads_few(host: &HostRuntime, rt: &impl Abort, case: &Case) {
     let (first, _) = reads_twice(host, rt, case);
-    assert!(rt; first < 2 * MANY, "{first}");
+    let asked = lines_of(host, rt, case.asked);
+    assert!(rt; first < 2 * MANY, "{asked:?}: {first}");
 }
 
 #[test]
