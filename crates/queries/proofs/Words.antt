@@ -127,7 +127,7 @@ pub use Rattle.whole_tables.proofs.Deciding.{few_once, few_moved, rises, found_s
 pub use Rattle.slices.specs.ByLot.{AreLotsOf, AreStockOf}
 pub use Rattle.slices.specs.Reading.{IsRead}
 pub use Rattle.slices.specs.Remembering.{Learning, KnowsRows}
-pub use Rattle.slices.specs.Slicing.{is_among, items_of_lots, is_open_in, is_passed, with_names, Covers, AreOrders, AreLeast, AreUrgents, Each, listed, others, has_line_in, with_lines, AreLinesOf, AreLines, AreOrdered, AreAllLines, AreBins}
+pub use Rattle.slices.specs.Slicing.{is_among, items_of_lots, is_open_in, is_passed, with_names, Covers, AreOrders, AreLeast, AreUrgents, Each, listed, others, has_line_in, with_lines, AreLinesOf, AreLines, AreAllLines, AreBins}
 pub use Rattle.slices.specs.declared.knowing.Known.{Known}
 pub use Rattle.slices.specs.declared.rows_known.RowsKnown.{RowsKnown}
 pub use Rattle.slices.proofs.Counted.{any_mapped}
@@ -154,6 +154,6 @@ pub use Rattle.queries.specs.ShownNames.{gtins_of, AreNamed, IsItemSeen, AreName
 pub use Rattle.queries.specs.ShownNotice.{IsNoticeIn, whole, whole_notice_shown, head_of}
 pub use Rattle.queries.specs.ShownOpen.{AreAllOpen, order_of, order_in, names_served, AreOfOrders, AreListed, IsSeen, IsOpenIn}
 pub use Rattle.queries.specs.ShownOrders.{booked_lots, reserved_lots, AreOfOrder, IsOrderIn, AreOrderLines}
-pub use Rattle.queries.specs.ShownShort.{AreOrderedFor, AreUrgentFor, AreOfDemands, IsShortIn}
+pub use Rattle.queries.specs.ShownShort.{AreOrdered, AreOrderedFor, AreUrgentFor, AreOfDemands, IsShortIn}
 pub use Rattle.queries.specs.ShownStock.{AreOfItem, IsStockIn}
 pub use Rattle.queries.specs.declared.shown_notice.NoticeRows.{NoticeRows}

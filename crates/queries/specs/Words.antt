@@ -66,7 +66,7 @@ pub use Rattle.tables.specs.Stock.{AreStockIn, AreStockOfLot}
 pub use Rattle.slices.specs.ByLot.{AreLotsOf, AreStockOf}
 pub use Rattle.slices.specs.Reading.{Knowing}
 pub use Rattle.slices.specs.Remembering.{KnowsRows}
-pub use Rattle.slices.specs.Slicing.{HoldsOf, Each, AreLeast, items_of_lots, AreAllLines, AreUrgents, AreOrders, with_names, AreBins, AreOrdered, AreKnownOrders, AreUrgentsFor, AreBooked}
+pub use Rattle.slices.specs.Slicing.{HoldsOf, Each, AreLeast, items_of_lots, AreAllLines, AreUrgents, AreOrders, with_names, AreBins, AreOpen, AreKnownOrders, AreUrgentsFor, AreBooked}
 pub use Rattle.slices.specs.declared.knowing.Known.{Known}
 pub use Rattle.slices.specs.declared.rows_known.RowsKnown.{RowsKnown}
 pub use Rattle.queries.specs.declared.shown_notice.NoticeRows.{NoticeRows}

@@ -1,5 +1,5 @@
 -- What the calls of a map make of what is known.
-use Rattle.rows_in_memory.proofs.Words.{◌≡◌, Bool, true, false, cond, ◌⊎◌, inl, inr, List, [], ◌∷◌, Vec, Global, refl, sym, ap, subst, ◌∙◌, if◌then◌else◌, ◌||◌, Option, Some, None, IfSome, Result, Ok, Err, OnOk, is_err, list_any, is_eq, Ordering, BTreeMap, get, get_by, is_at, ◌++◌, filter, append-nil, append_assoc, RowMap, rows_in, rows_at, KnowsNone, IsPart, LearnsAt, ForgetsAt, ForgetsBy, ChangesBy, each_changed, KnowsAll, placed}
+use Rattle.rows_in_memory.proofs.Words.{◌≡◌, Bool, true, false, cond, ◌⊎◌, inl, inr, List, [], ◌∷◌, Vec, Global, refl, sym, ap, subst, ◌∙◌, if◌then◌else◌, ◌||◌, Option, Some, None, IfSome, Result, Ok, Err, OnOk, is_err, list_any, is_eq, Ordering, BTreeMap, get, get_by, is_at, ◌++◌, filter, append-nil, append_assoc, RowMap, rows_in, rows_at, KnowsNone, IsPart, LearnsAt, ForgetsAt, ForgetsBy, ChangesBy, each_changed, SetsAt, last_set, SetsBy, KnowsAll, placed}
 use Rattle.rows_in_memory.specs.KnownRows.{ChangesAt}
 
 -- what is known is known too where the lists are the same, and have all rows if these do
@@ -7,6 +7,11 @@ pub kept_in : {R : Type 0} (all some : Bool) → (some ≡ true → all ≡ true
 kept_in all some more (Some v) = refl
 kept_in all true more None = ap (λ b. if b then Some [] else None) (more refl)
 kept_in all false more None = tt
+
+-- where all rows are known, those of each list are
+known_whole : {R : Type 0} (all : Bool) → all ≡ true → (x : Option (Vec R Global)) → (rows : List R) × (rows_in all x ≡ Some rows)
+known_whole all is (Some v) = (v.items, refl)
+known_whole all is None = ([], ap (λ b. if b then Some [] else None) is)
 
 module _ {K R : Type 0} (cmp : K → K → Ordering) where
   -- the lists with another one under a key
@@ -73,6 +78,18 @@ module _ {K R : Type 0} (cmp : K → K → Ordering) where
         chosen : (b : Bool) → is_eq (cmp own q) ≡ b → Changed q (rows_at cmp new q)
         chosen true e = subst (Changed q) (sym (ap (rows_in new.whole) (becomes q ∙ ap (λ b. cond b None (get cmp old.lists q)) e) ∙ ap (λ w. rows_in w None) some)) tt
         chosen false e = other q e (rows_at cmp new q) (was_known old new (λ w. let no : true ≡ false = sym w ∙ some in cc) q (becomes q ∙ ap (λ b. cond b None (get cmp old.lists q)) e))
+
+    -- it is gone, and there are no rows under the key where all are known
+    pub changes_emptied : ((rows : List R) → change rows ≡ []) → (new : RowMap K R) → AreWhole old new → Becomes own None old.lists new.lists → ChangesAt cmp k change old new
+    changes_emptied empties new more becomes q = chosen (is_eq (cmp own q)) refl
+      where
+        emptied : is_eq (cmp own q) ≡ true → (w : Bool) → (w ≡ true → old.whole ≡ true) → Changed q (rows_in w None)
+        emptied e true whole = let was = known_whole old.whole (whole refl) (get cmp old.lists q) in here q e was.0 [] was.1 (sym (empties was.0))
+        emptied e false whole = tt
+
+        chosen : (b : Bool) → is_eq (cmp own q) ≡ b → Changed q (rows_at cmp new q)
+        chosen true e = subst (Changed q) (sym (ap (rows_in new.whole) (becomes q ∙ ap (λ b. cond b None (get cmp old.lists q)) e))) (emptied e new.whole more)
+        chosen false e = other q e (rows_at cmp new q) (was_known old new more q (becomes q ∙ ap (λ b. cond b None (get cmp old.lists q)) e))
 
     -- or it is changed in its place
     pub changes_in : ((a b : K) → is_eq (cmp a b) ≡ true → a ≡ b) → (new : RowMap K R) → AreWhole old new → (v w : Vec R Global) → Some v ≡ get_by (cmp own) old.lists → w.items ≡ change v.items → Becomes own (Some w) old.lists new.lists → ChangesAt cmp k change old new
@@ -204,6 +221,41 @@ module _ {K R : Type 0} (cmp : K → K → Ordering) (key : R → K) where
         left None h = tt
         left (Some found) h = (found, h.0, sym (unnamed q all found h.1))
 
+-- Rows that are set in turn
+
+module _ {K R : Type 0} (cmp : K → K → Ordering) (key : R → K) where
+  -- of more that was known before, what rows make is the same where it is known
+  more_set : (rows : List R) (q : K) (x y : Option (List R)) → IfSome x (λ now. y ≡ Some now) → (found : List R) → last_set cmp key rows q x ≡ Some found → last_set cmp key rows q y ≡ Some found
+  more_set [] q None y part found is = let no : None ≡ Some found = is in cc
+  more_set [] q (Some now) y part found is = part ∙ is
+  more_set (r ∷ rows) q x y part found is =
+      more_set rows q (if is_eq (cmp (key r) q) then Some (r ∷ []) else x) (if is_eq (cmp (key r) q) then Some (r ∷ []) else y) (chosen (is_eq (cmp (key r) q))) found is
+    where
+      chosen : (b : Bool) → IfSome (if b then Some (r ∷ []) else x) (λ now. (if b then Some (r ∷ []) else y) ≡ Some now)
+      chosen true = refl
+      chosen false = part
+
+  sets_first : (r : R) (rest : List R) (old mid new : RowMap K R) → SetsAt cmp (key r) r old mid → SetsBy cmp key rest mid new → SetsBy cmp key (r ∷ rest) old new
+  sets_first r rest old mid new at later q = step (rows_at cmp new q) (later q)
+    where
+      step : (x : Option (List R)) → IfSome x (λ found. last_set cmp key rest q (rows_at cmp mid q) ≡ Some found) → IfSome x (λ found. last_set cmp key (r ∷ rest) q (rows_at cmp old q) ≡ Some found)
+      step None h = tt
+      step (Some found) h = more_set rest q (rows_at cmp mid q) (if is_eq (cmp (key r) q) then Some (r ∷ []) else rows_at cmp old q) (at q) found h
+
+  -- once the rows that are left are set, all of them are
+  abbrev pub Setting : List R → List R → RowMap K R → RowMap K R → Type 0
+  Setting all rest old mid = (new : RowMap K R) → SetsBy cmp key rest mid new → SetsBy cmp key all old new
+
+  pub setting_next : (all left rest : List R) (r : R) (old mid next : RowMap K R) → left ≡ r ∷ rest → SetsAt cmp (key r) r mid next → Setting all left old mid → Setting all rest old next
+  setting_next all left rest r old mid next is at so_far new later = so_far new (subst (λ (l : List R). SetsBy cmp key l mid new) (sym is) (sets_first r rest mid next new at later))
+
+  pub all_set : (all : List R) (old mid : RowMap K R) → Setting all [] old mid → SetsBy cmp key all old mid
+  all_set all old mid so_far = so_far mid (λ q. same (rows_at cmp mid q))
+    where
+      same : (x : Option (List R)) → IfSome x (λ found. x ≡ Some found)
+      same None = tt
+      same (Some found) = refl
+
 -- All rows, one behind the other
 
 module _ {K R : Type 0} (cmp : K → K → Ordering) (same : R → R → Bool) (key : R → K) where
@@ -247,6 +299,35 @@ changed_part {R = R} cmp key change rows old mid new changes part q = left (rows
     left : (x : Option (List R)) → IfSome x (λ found. rows_at cmp mid q ≡ Some found) → IfSome x (λ found. (before : List R) × (rows_at cmp old q ≡ Some before) × (found ≡ each_changed cmp key change rows q before))
     left None h = tt
     left (Some found) h = subst (λ (y : Option (List R)). IfSome y (λ f. (before : List R) × (rows_at cmp old q ≡ Some before) × (f ≡ each_changed cmp key change rows q before))) h (changes q)
+
+-- Lists that go
+
+module _ {K R : Type 0} (cmp : K → K → Ordering) where
+  pub part_self : (old : RowMap K R) → IsPart cmp old old
+  part_self old q = told (rows_at cmp old q)
+    where
+      told : (x : Option (List R)) → IfSome x (λ found. x ≡ Some found)
+      told None = tt
+      told (Some found) = refl
+
+  pub part_then : (old mid new : RowMap K R) → IsPart cmp old mid → IsPart cmp mid new → IsPart cmp old new
+  part_then old mid new first second q = told (rows_at cmp new q) (second q)
+    where
+      told : (x : Option (List R)) → IfSome x (λ found. rows_at cmp mid q ≡ Some found) → IfSome x (λ found. rows_at cmp old q ≡ Some found)
+      told None h = tt
+      told (Some found) h = subst (λ (y : Option (List R)). IfSome y (λ f. rows_at cmp old q ≡ Some f)) h (first q)
+
+  -- of one that has no rows nothing is lost
+  pub part_emptied : ((a b : K) → is_eq (cmp a b) ≡ true → a ≡ b) → (k : K) (old new : RowMap K R) → rows_at cmp old k ≡ Some [] → ChangesAt cmp k (λ rows. []) old new → IsPart cmp old new
+  part_emptied one k old new none empties q = told (rows_at cmp new q) (empties q)
+    where
+      by_key : (b : Bool) → is_eq (cmp k q) ≡ b → (before found : List R) → rows_at cmp old q ≡ Some before → found ≡ (if b then [] else before) → rows_at cmp old q ≡ Some found
+      by_key true e before found was is = subst (λ (x : K). rows_at cmp old x ≡ Some []) (one k q e) none ∙ ap Some (sym is)
+      by_key false e before found was is = was ∙ ap Some (sym is)
+
+      told : (x : Option (List R)) → IfSome x (λ found. (before : List R) × (rows_at cmp old q ≡ Some before) × (found ≡ (if is_eq (cmp k q) then [] else before))) → IfSome x (λ found. rows_at cmp old q ≡ Some found)
+      told None h = tt
+      told (Some found) h = by_key (is_eq (cmp k q)) refl h.0 found h.1 h.2
 
 -- a row alone is what it makes of no rows
 pub placed_alone : {R : Type 0} (same : R → R → Bool) (is_new : Bool) (r : R) → placed same is_new r [] ≡ r ∷ []

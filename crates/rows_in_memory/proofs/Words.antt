@@ -36,7 +36,7 @@ pub use Rattle.row_rules.specs.declared.slice.Rows.{Rows}
 pub use Rattle.row_rules.proofs.Making.{same_items}
 pub use Rattle.row_rules.proofs.Walking.{IsKept}
 pub use Rattle.rows_in_memory.specs.Keys.{has_key, with_key, with_keys, AreKeyed}
-pub use Rattle.rows_in_memory.specs.KnownRows.{RowMap, rows_in, rows_at, KnowsAll, placed, KnowsNone, LearnsAt, ForgetsBy, Remembers, IsPart, ForgetsAt, ChangesBy, each_changed, list_weight, map_weight, without_row, with_put}
+pub use Rattle.rows_in_memory.specs.KnownRows.{RowMap, rows_in, rows_at, KnowsAll, placed, KnowsNone, LearnsAt, ForgetsBy, Remembers, IsPart, ForgetsAt, ChangesBy, each_changed, SetsAt, last_set, SetsBy, list_weight, map_weight, without_row, with_put}
 pub use Rattle.rows_in_memory.specs.NameOrder.{names_told}
 pub use Rattle.rows_in_memory.specs.OpenLines.{orders_at, are_apart, with_order, without_order, ChangesAt, IsSame, holds, Gains, Loses, Entries, Keeps, all_names, has_line_row, has_closed_row, is_closed_state}
 pub use Rattle.rows_in_memory.specs.Parts.{is_ending, with_name, with_names, with_some, items_of_lots, has_line_in, with_lines, is_among, has_urgent_row, urgent_lines}

@@ -8,7 +8,6 @@ use Rattle.values.specs.declared.lot.LotId.{LotId}
 use Rattle.values.specs.declared.lot_key.LotKey.{LotKey}
 use Rattle.commands.specs.declared.rows.LineRow.{LineRow}
 use Rattle.commands.specs.declared.rows.LotRow.{LotRow}
-use Rattle.commands.specs.declared.rows.OrderRow.{OrderRow}
 use Rattle.commands.specs.declared.rows.ReservedRow.{ReservedRow}
 use Rattle.commands.specs.declared.rows.StagedRow.{StagedRow}
 use Rattle.commands.specs.declared.rows.StockRow.{StockRow}
@@ -58,9 +57,6 @@ abbrev pub same_lot_row : LotRow → LotRow → Bool
 same_lot_row a b = same_lot_id a.lot b.lot
 
 -- one order
-abbrev pub same_order_row : OrderRow → OrderRow → Bool
-same_order_row a b = bytes_eq a.order b.order
-
 abbrev pub same_urgent_row : UrgentRow → UrgentRow → Bool
 same_urgent_row a b = bytes_eq a.order b.order
 

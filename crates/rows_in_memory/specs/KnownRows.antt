@@ -72,6 +72,19 @@ module _ {K R : Type 0} (cmp : K → K → Ordering) where
   abbrev pub ChangesBy : (R → K) → (R → List R → List R) → List R → RowMap K R → RowMap K R → Type 0
   ChangesBy key change rows old new = (q : K) → IfSome (rows_at new q) (λ found. (before : List R) × (rows_at old q ≡ Some before) × (found ≡ each_changed key change rows q before))
 
+  -- what is known after is this row alone, under this key, or was known before
+  abbrev pub SetsAt : K → R → RowMap K R → RowMap K R → Type 0
+  SetsAt k r old new = (q : K) → IfSome (rows_at new q) (λ found. (if is_eq (cmp k q) then Some (r ∷ []) else rows_at old q) ≡ Some found)
+
+  -- under a key, the last of the rows whose key it is, alone, or what was known before
+  abbrev pub last_set : (R → K) → List R → K → Option (List R) → Option (List R)
+  last_set key [] q before = before
+  last_set key (r ∷ rs) q before = last_set key rs q (if is_eq (cmp (key r) q) then Some (r ∷ []) else before)
+
+  -- what is known after is each of these rows alone, under its key, one after another, or was known before
+  abbrev pub SetsBy : (R → K) → List R → RowMap K R → RowMap K R → Type 0
+  SetsBy key rows old new = (q : K) → IfSome (rows_at new q) (λ found. last_set key rows q (rows_at old q) ≡ Some found)
+
   -- what is known after was known before, or it is those of these rows whose key it is
   abbrev pub KnowsAll : (R → K) → List R → RowMap K R → RowMap K R → Type 0
   KnowsAll key rows old new = (q : K) → IfSome (rows_at new q) (λ found. (found ≡ filter (λ r. is_eq (cmp (key r) q)) rows) ⊎ (rows_at old q ≡ Some found))

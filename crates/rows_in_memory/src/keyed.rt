@@ -1,7 +1,7 @@
 //! Keys that tell exactly, and rows that have a key among others.
 
 use crate::LineKey;
-use commands::{LineRow, LotRow, OrderRow, ReservedRow, StagedRow, StockRow, UrgentRow};
+use commands::{LineRow, LotRow, ReservedRow, StagedRow, StockRow, UrgentRow};
 use values::{LotKey, TextKey};
 
 /// A key that compares as equal with itself alone.
@@ -48,16 +48,6 @@ impl KeyedRow for LotRow {
 
     fn is_same(&self, other: &Self) -> bool {
         self.lot == other.lot
-    }
-}
-
-impl KeyedRow for OrderRow {
-    ghost use Rattle.rows_in_memory.specs.Keyed.{same_order_row};
-
-    ghost same_row = { same_order_row };
-
-    fn is_same(&self, other: &Self) -> bool {
-        self.order == other.order
     }
 }
 

@@ -4,7 +4,7 @@ ghost use Rattle.std.specs.Prelude.{◌≡◌, ◌+◌, ◌≤◌, ◌∷◌, []
 ghost use Rattle.std.specs.BTreeMap.{get};
 ghost use Rattle.std.specs.Option.{option_copied};
 ghost use Rattle.rows_in_memory.specs.declared.known.TheConstants.{WEIGHT_MAX};
-ghost use Rattle.rows_in_memory.specs.KnownRows.{list_weight, map_weight, rows_at, KnowsNone, IsPart, LearnsAt, ForgetsAt, ForgetsBy, ChangesAt, ChangesBy, KnowsAll, placed, with_put, without_row};
+ghost use Rattle.rows_in_memory.specs.KnownRows.{list_weight, map_weight, rows_at, KnowsNone, IsPart, LearnsAt, ForgetsAt, ForgetsBy, ChangesAt, ChangesBy, SetsAt, SetsBy, KnowsAll, placed, with_put, without_row};
 
 use crate::key_list::KeyOf;
 use crate::keyed::{ExactKey, KeyedRow};
@@ -27,7 +27,7 @@ pub struct KnownRows<B: Copy, K: KeyOf<B>, R: Has<B>> {
     pub rows: KnownLists<K, R>,
     /// What is known weighs so much.
     pub weight: u64,
-    /// All rows were too many when it was last tried to know them.
+    /// All rows are not to be read at once: they were too many when that was last tried, or what is read is not kept.
     pub too_many: bool,
     pub alloc: Global,
     pub of: PhantomData<B>,
@@ -72,6 +72,16 @@ impl<B: Copy, K: KeyOf<B>, R: Has<B>> KnownRows<B, K, R> {
         }
     }
 
+    /// No rows are sought by this any more: its list goes, and where all rows are known it is known that there are none. It takes
+    /// no memory.
+    pub fn empty(&mut self, by: &B)
+        ensures { ChangesAt K.cmp (K.key by.now) (λ rows. []) self.old.rows self.new.rows }
+    {
+        if let Some(rows) = self.rows.lists.remove(&K::of(by)) {
+            self.weight -= weight_of(&rows);
+        }
+    }
+
     /// Forgets what is known of the rows that are sought with one of these. It takes no memory.
     pub fn forget_all(&mut self, rows: &[R])
         ensures { ForgetsBy K.cmp (λ r. K.key (R.of_row r)) rows.now self.old.rows self.new.rows }
@@ -91,7 +101,6 @@ impl<B: Copy, K: KeyOf<B>, R: Has<B>> KnownRows<B, K, R> {
             whole,
         };
         self.weight = 0;
-        self.too_many = false;
     }
 
     // Forgets all, where too much is known.
@@ -117,13 +126,32 @@ impl<B: Copy, K: KeyOf<B>, R: Has<B>> KnownRows<B, K, R> {
         }
     }
 
+    // The row alone is all that is sought by what it has. For want of memory that is not known.
+    fn set(&mut self, row: &R)
+        ensures { SetsAt K.cmp (K.key (R.of_row row.now)) row.now self.old.rows self.new.rows }
+    {
+        let by = row.value();
+        self.forget(&by);
+        if let Ok(own) = one_row::<R>(self.alloc, row) {
+            self.keep(&by, own);
+        }
+    }
+
+    /// Each of these rows alone is all that is sought by what it has, one after another. For want of memory that is not known.
+    pub fn set_all(&mut self, rows: &[R])
+        ensures { SetsBy K.cmp (λ r. K.key (R.of_row r)) rows.now self.old.rows self.new.rows }
+    {
+        for row in rows {
+            self.set(row);
+        }
+    }
+
     // That all rows are known is given up, where they are too many.
     fn bound_whole(&mut self)
         ensures { IsPart K.cmp self.old.rows self.new.rows }
     {
         if self.rows.whole && self.weight > WEIGHT_MAX {
             self.rows.whole = false;
-            self.too_many = true;
         }
     }
 }
@@ -223,6 +251,37 @@ impl<B: Copy, K: KeyOf<B> + ExactKey, R: Has<B> + KeyedRow> KnownRows<B, K, R> {
         }
     }
 
+    // A list without rows goes, where all rows are known: what has no list has none.
+    fn drop_list(&mut self, by: &B)
+        ensures { IsPart K.cmp self.old.rows self.new.rows }
+    {
+        let is_none = match self.rows_of(by) {
+            Some(rows) => rows.is_empty(),
+            None => false,
+        };
+        if is_none && self.rows.whole {
+            self.empty(by);
+        }
+    }
+
+    // The lists of these rows that have none go, where all rows are known.
+    fn drop_lists(&mut self, rows: &[R])
+        ensures { IsPart K.cmp self.old.rows self.new.rows }
+    {
+        for row in rows {
+            self.drop_list(&row.value());
+        }
+    }
+
+    /// As `drop_all`. The lists that this leaves without rows go too, where all rows are known: they are of keys that few rows
+    /// come under later.
+    pub fn lose_all(&mut self, rows: &[R])
+        ensures { ChangesBy K.cmp (λ r. K.key (R.of_row r)) (without_row R.same_row) rows.now self.old.rows self.new.rows }
+    {
+        self.drop_all(rows);
+        self.drop_lists(rows);
+    }
+
     // Each of these rows goes behind its list.
     fn place_all(&mut self, rows: &[R])
         ensures { ChangesBy K.cmp (λ r. K.key (R.of_row r)) (placed R.same_row true) rows.now self.old.rows self.new.rows }
@@ -237,16 +296,24 @@ impl<B: Copy, K: KeyOf<B> + ExactKey, R: Has<B> + KeyedRow> KnownRows<B, K, R> {
     pub fn keep_all(&mut self, rows: &[R])
         ensures { KnowsAll K.cmp (λ r. K.key (R.of_row r)) rows.now self.old.rows self.new.rows }
     {
-        if rows.len() as u64 > WEIGHT_MAX {
-            self.too_many = true;
+        self.too_many = rows.len() as u64 > WEIGHT_MAX;
+        if self.too_many {
             return;
         }
         self.begin_anew(true);
         self.place_all(rows);
+        self.too_many = self.weight > WEIGHT_MAX;
         self.bound_whole();
     }
 
-    /// Whether it is worth reading all rows: they are not known, and were not found to be too many.
+    /// From now on each list is sought alone, and never all rows at once.
+    pub fn seek_alone(&mut self)
+        ensures { self.new.rows ≡ self.old.rows }
+    {
+        self.too_many = true;
+    }
+
+    /// Whether it is worth reading all rows: they are not known, and not too many.
     pub fn wants_all(&self) -> bool
         ensures { result ≡ not self.now.rows.whole && not self.now.too_many }
     {

@@ -1,6 +1,6 @@
 //! A list of rows with one row more or fewer.
 
-ghost use Rattle.std.specs.Prelude.{◌≡◌, ◌+◌, ◌<◌, ◌^◌, true, false, [], ◌∷◌, IfOk, OnOk, is_err};
+ghost use Rattle.std.specs.Prelude.{◌≡◌, ◌+◌, ◌<◌, ◌^◌, ◌++◌, true, false, [], ◌∷◌, IfOk, OnOk, is_err};
 ghost use Rattle.std.specs.Option.{option_map, unwrap_or};
 ghost use Rattle.rows_in_memory.specs.KnownRows.{list_weight, placed, without_row};
 
@@ -14,6 +14,17 @@ pub fn drop_from<R: KeyedRow>(rows: &mut Vec<R>, row: &R)
     rows.retain(|other| !other.is_same(row));
 }
 
+// With the row behind the others. A first one takes no more room than its own, since most lists stay lists of one.
+fn push_into<R: Copy>(rows: &mut Vec<R>, row: &R) -> Result<(), AllocError>
+    ensures { OnOk result (rows.new.items ≡ rows.old.items ++ row.now ∷ []) }
+{
+    if rows.is_empty() {
+        rows.reserve_exact(1)?;
+    }
+    rows.push(*row)?;
+    Ok(())
+}
+
 /// With the row in place of the one that has its key. Where the row is new there is none, and the list is not walked.
 pub fn put_in<R: KeyedRow>(rows: &mut Vec<R>, row: &R, is_new: bool) -> Result<(), AllocError>
     ensures { OnOk result (rows.new.items ≡ placed R.same_row is_new row.now rows.old.items) }
@@ -21,15 +32,14 @@ pub fn put_in<R: KeyedRow>(rows: &mut Vec<R>, row: &R, is_new: bool) -> Result<(
     if !is_new {
         drop_from::<R>(rows, row);
     }
-    rows.push(*row)?;
-    Ok(())
+    push_into::<R>(rows, row)
 }
 
 /// The row alone.
 pub fn one_row<R: Copy>(alloc: Global, row: &R) -> Result<Vec<R>, AllocError>
     ensures { IfOk result (λ rows. rows.items ≡ row.now ∷ []) }
 {
-    let mut rows = Vec::new(alloc);
+    let mut rows = Vec::with_capacity(alloc, 1)?;
     rows.push(*row)?;
     Ok(rows)
 }

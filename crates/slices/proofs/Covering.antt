@@ -1,5 +1,5 @@
 -- The orders that may be open: as they are read, without those of which a row tells that they are closed, and with those of a change.
-use Rattle.slices.proofs.Words.{◌≡◌, ℕ, Bool, true, false, ◌&&◌, not, List, [], ◌∷◌, map, filter, refl, ap, sym, subst, ◌∙◌, ◌||◌, if◌then◌else◌, find, Option, Some, None, is_some, list_any, same_text, Tables, OrderRow, UrgentRow, LineRow, OrderState, Open, Done, Cancelled, Entries, holds, Gains, Loses, has_line_row, is_closed_state, has_closed_row, only_if, OrderKey, same_order, order_key, is_open_order, urgent_key, LineKey, same_line, line_key, is_open_state, AreOwn, and_both, or_first, or_later, same_text_is, same_text_refl, same_text_turned, Put, is_among, is_passed, is_open_in, with_names, other_names, has_urgent_row, urgent_lines, opens, opened_by, comes, Covers, CoversUrgent, AreAllLines, AreUrgents, AreNamed, AreKnownOrders, AreOpenLines, AreLinesPut, AreUrgentsPut, Knows, Known, Each}
+use Rattle.slices.proofs.Words.{◌≡◌, inl, inr, ℕ, Bool, true, false, ◌&&◌, not, List, [], ◌∷◌, map, filter, refl, ap, sym, subst, ◌∙◌, ◌||◌, if◌then◌else◌, find, Option, Some, None, is_some, list_any, same_text, Tables, OrderRow, UrgentRow, LineRow, OrderState, Open, Done, Cancelled, Entries, holds, Gains, Loses, has_line_row, is_closed_state, has_closed_row, only_if, OrderKey, same_order, order_key, is_open_order, urgent_key, LineKey, same_line, line_key, is_open_state, AreOwn, and_both, or_first, or_later, same_text_is, same_text_refl, same_text_turned, Put, is_among, is_passed, is_open_in, with_names, other_names, has_urgent_row, urgent_lines, opens, opened_by, comes, Covers, CoversUrgent, AreAllLines, AreUrgents, AreLined, AreNamed, AreKnownOrders, AreOpenLines, AreLinesPut, AreUrgentsPut, Knows, Known, Each}
 use Rattle.table_words.specs.Found as read
 use Rattle.slices.proofs.Counted.{any_mapped}
 use Rattle.slices.proofs.KnownOrders.{any_more, among_others}
@@ -127,19 +127,30 @@ module _ (t : Tables) (puts : Put) (lines : List LineRow) (lines_are : AreLinesP
 
 -- Rows of orders that were read are the tables'
 
-each_own : (t : Tables) (names : List (List ℕ)) (rows : List OrderRow) → Each (λ o part. read.AreRows {K = OrderKey} same_order order_key (λ k. same_text o k) t.order part) names rows → AreOwn {K = OrderKey} order_key (λ k. true) t.order rows
-each_own t [] rows e = subst (λ (l : List OrderRow). AreOwn {K = OrderKey} order_key (λ k. true) t.order l) (sym e) tt
-each_own t (n ∷ names) rows (xs, ys, part, more, e) =
+each_own : (t : Tables) (are : List ℕ → List OrderRow → Type 0) → ((o : List ℕ) (part : List OrderRow) → are o part → AreOwn {K = OrderKey} order_key (λ k. true) t.order part)
+    → (names : List (List ℕ)) (rows : List OrderRow) → Each are names rows → AreOwn {K = OrderKey} order_key (λ k. true) t.order rows
+each_own t are own [] rows e = subst (λ (l : List OrderRow). AreOwn {K = OrderKey} order_key (λ k. true) t.order l) (sym e) tt
+each_own t are own (n ∷ names) rows (xs, ys, part, more, e) =
     subst (λ (l : List OrderRow). AreOwn {K = OrderKey} order_key (λ k. true) t.order l) (sym e)
-    (own_joined {K = OrderKey} same_order order_key same_text_is same_text_refl (λ k. true) (λ k. true) t.order xs ys
-    (own_more {K = OrderKey} same_order order_key same_text_is same_text_refl (λ k. same_text n k) (λ k. true) t.order xs (λ k h. refl)
-    (rows_read {K = OrderKey} same_order order_key same_text_is same_text_refl (λ k. same_text n k) t.order xs part).own)
-    (each_own t names ys more))
+    (own_joined {K = OrderKey} same_order order_key same_text_is same_text_refl (λ k. true) (λ k. true) t.order xs ys (own n xs part) (each_own t are own names ys more))
+
+row_own : (t : Tables) (o : List ℕ) (rows : List OrderRow) → read.AreRows {K = OrderKey} same_order order_key (λ k. same_text o k) t.order rows → AreOwn {K = OrderKey} order_key (λ k. true) t.order rows
+row_own t o rows are =
+    own_more {K = OrderKey} same_order order_key same_text_is same_text_refl (λ k. same_text o k) (λ k. true) t.order rows (λ k h. refl)
+    (rows_read {K = OrderKey} same_order order_key same_text_is same_text_refl (λ k. same_text o k) t.order rows are).own
+
+lined_own : (t : Tables) (o : List ℕ) (rows : List OrderRow) → AreLined o t rows → AreOwn {K = OrderKey} order_key (λ k. true) t.order rows
+lined_own t o rows (inl none) = subst (λ (l : List OrderRow). AreOwn {K = OrderKey} order_key (λ k. true) t.order l) (sym none.0) tt
+lined_own t o rows (inr are) = row_own t o rows are
+
+named_own : (t : Tables) (names : List (List ℕ)) (rows : List OrderRow) → Each (λ o found. AreLined o t found) names rows → AreOwn {K = OrderKey} order_key (λ k. true) t.order rows
+named_own t names rows each = each_own t (λ o found. AreLined o t found) (lined_own t) names rows each
 
 own_orders : (known : Entries) (named gtins : List (List ℕ)) (t : Tables) (orders : List OrderRow) (lines : List LineRow) → AreKnownOrders known named gtins t orders lines → AreOwn {K = OrderKey} order_key (λ k. true) t.order orders
 own_orders known named gtins t orders lines are =
     subst (λ (l : List OrderRow). AreOwn {K = OrderKey} order_key (λ k. true) t.order l) (sym are.orders)
-    (own_joined {K = OrderKey} same_order order_key same_text_is same_text_refl (λ k. true) (λ k. true) t.order are.own are.rest (each_own t _ are.own are.is_own.orders) (each_own t _ are.rest are.is_rest.orders))
+    (own_joined {K = OrderKey} same_order order_key same_text_is same_text_refl (λ k. true) (λ k. true) t.order are.own are.rest (named_own t named are.own are.is_own.orders)
+    (each_own t (λ o found. read.AreRows {K = OrderKey} same_order order_key (λ k. same_text o k) t.order found) (row_own t) _ are.rest are.is_rest.orders))
 
 pub known_met : (known : Entries) (named gtins : List (List ℕ)) (t : Tables) (orders : List OrderRow) (lines : List LineRow) (old new : Entries) → AreKnownOrders known named gtins t orders lines
     → Loses (λ g o. has_closed_row orders o && has_line_row lines g o) old new → StaysKnown t old new
@@ -147,12 +158,9 @@ known_met known named gtins t orders lines old new are loses = still_known t (λ
 
 -- the order that is shipped
 pub known_shipped : (named : List (List ℕ)) (t : Tables) (orders : List OrderRow) (lines : List LineRow) (old new : Entries) → AreNamed named t orders lines → Loses (λ g o. has_closed_row orders o && has_line_row lines g o) old new → StaysKnown t old new
-known_shipped named t orders lines old new are loses = still_known t (λ k. true) orders lines old new (each_own t _ orders are.orders) loses
+known_shipped named t orders lines old new are loses = still_known t (λ k. true) orders lines old new (named_own t named orders are.orders) loses
 
 -- the order that is picked for
 pub known_picked : (order : List ℕ) (t : Tables) (orders : List OrderRow) (lines : List LineRow) (old new : Entries) → read.AreRows {K = OrderKey} same_order order_key (λ k. same_text order k) t.order orders
     → Loses (λ g o. has_closed_row orders o && has_line_row lines g o) old new → StaysKnown t old new
-known_picked order t orders lines old new are loses =
-    still_known t (λ k. true) orders lines old new
-    (own_more {K = OrderKey} same_order order_key same_text_is same_text_refl (λ k. same_text order k) (λ k. true) t.order orders (λ k h. refl) (rows_read {K = OrderKey} same_order order_key same_text_is same_text_refl (λ k. same_text order k) t.order orders are).own)
-    loses
+known_picked order t orders lines old new are loses = still_known t (λ k. true) orders lines old new (row_own t order orders are) loses

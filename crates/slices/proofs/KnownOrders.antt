@@ -179,8 +179,8 @@ module _ (known : Entries) (named gtins : List (List ℕ)) (t : Tables) (covers 
     kept : (o : List ℕ) → has_kept o ≡ true → (is_among named o ≡ false) × (has_line_of gtins t o ≡ true)
     kept = kept_line are.rest_lines are.rest are.is_rest.lines are.is_rest.orders
 
-    own_orders : AreRows {K = OrderKey} same_order order_key (is_among named) (is_among named) t.order are.own
-    own_orders = sought {K = OrderKey} same_order order_key same_text_is same_text_refl (λ o. o) t.order named (is_among named) are.own named_once (λ x. refl) are.is_own.orders
+    own_orders : AreOrders named t are.own → AreRows {K = OrderKey} same_order order_key (is_among named) (is_among named) t.order are.own
+    own_orders own = sought {K = OrderKey} same_order order_key same_text_is same_text_refl (λ o. o) t.order named (is_among named) are.own named_once (λ x. refl) own
 
     own_lines_rows : AreRows {K = LineKey} same_line line_key (λ k. is_among named k.0) (λ k. is_among named k.0) (λ k. t.line k.0 k.1) are.own_lines
     own_lines_rows = sought {K = LineKey} same_line line_key same_line_is same_line_refl (λ k. k.0) (λ k. t.line k.0 k.1) named (is_among named) are.own_lines named_once (λ x. refl) are.is_own.lines
@@ -189,8 +189,8 @@ module _ (known : Entries) (named gtins : List (List ℕ)) (t : Tables) (covers 
     none_both n true f e = absurd (let none : true ≡ false = sym e ∙ f refl in cc)
     none_both n false f e = refl
 
-    pub orders_told : AreRows {K = OrderKey} same_order order_key (λ o. is_among named o || (is_open_in t o && has_line_of gtins t o)) (λ o. is_among named o || has_line_of gtins t o) t.order order_rows
-    orders_told =
+    pub orders_told : AreOrders named t are.own → AreRows {K = OrderKey} same_order order_key (λ o. is_among named o || (is_open_in t o && has_line_of gtins t o)) (λ o. is_among named o || has_line_of gtins t o) t.order order_rows
+    orders_told own =
         subst (λ (l : List OrderRow). AreRows {K = OrderKey} same_order order_key (λ o. is_among named o || (is_open_in t o && has_line_of gtins t o)) (λ o. is_among named o || has_line_of gtins t o) t.order l) (sym are.orders)
         (rows_as {K = OrderKey} same_order order_key same_text_is same_text_refl (λ o. is_among named o || has_kept o) (λ o. is_among named o || has_kept o)
         (λ o. is_among named o || (is_open_in t o && has_line_of gtins t o)) (λ o. is_among named o || has_line_of gtins t o) t.order (are.own ++ are.rest)
@@ -198,7 +198,7 @@ module _ (known : Entries) (named gtins : List (List ℕ)) (t : Tables) (covers 
         (λ o e. may (is_among named o) (has_kept o) (has_line_of gtins t o) (λ there. (kept o there).1) e)
         (rows_joined {K = OrderKey} same_order order_key same_text_is same_text_refl (is_among named) (is_among named) has_kept has_kept t.order are.own are.rest
         (λ o e. none_both (is_among named o) (has_kept o) (λ there. (kept o there).0) e) (λ o e. (kept o e).0) (λ o e. none_both (is_among named o) (has_kept o) (λ there. (kept o there).0) e)
-        own_orders (rest_orders are.rest_lines are.rest are.is_rest.lines are.is_rest.orders)))
+        (own_orders own) (rest_orders are.rest_lines are.rest are.is_rest.lines are.is_rest.orders)))
       where
         needs : (o : List ℕ) (n p h : Bool) → is_among named o ≡ n → is_open_in t o ≡ p → has_line_of gtins t o ≡ h → n || (p && h) ≡ true → n || has_kept o ≡ true
         needs o true p h a b c e = refl

@@ -17,6 +17,7 @@ pub mod KeysTold
 pub mod KeysRead
 pub mod SliceTold
 pub mod LinesTold
+pub mod LinedOrders
 pub mod DayTold
 pub mod KnownOrders
 pub mod OwnRows

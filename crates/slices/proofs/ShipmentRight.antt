@@ -1,13 +1,14 @@
 -- What is read for a shipment of the tables of a history is its slice.
-use Rattle.slices.proofs.Words.{◌≡◌, ℕ, Bool, true, false, ◌&&◌, List, [], ◌∷◌, filter, refl, ap, sym, ◌∙◌, ◌||◌, Some, ℤ, list_any, same_text, LotId, Tables, Key, Ship, LineRow, StagedRow, ItemKey, same_item, item_key, least_key, BinKey, same_bin, bin_key, LotKey, same_lot, lot_key, recall_key, StockKey, same_stock, stock_key, StagedKey, same_staged, staged_key, ReservedKey, same_reserved, reserved_key, OrderKey, same_order, order_key, urgent_key, LineKey, same_line, line_key, Act, is_lot, has_line, tables_of, AreRows, and_both, or_false, or_first, or_later, same_text_is, same_text_refl, is_lot_is, is_lot_turned, is_lot_item, IsSlice, on_named_stage, has_touched_line, Slice, has_key, is_among, with_names, lots_on_stage, AreShipped, has_keys, once_keys}
+use Rattle.slices.proofs.Words.{◌≡◌, ℕ, Bool, true, false, ◌&&◌, List, [], ◌∷◌, filter, refl, ap, sym, ◌∙◌, ◌||◌, Some, ℤ, list_any, same_text, LotId, Tables, Key, Ship, LineRow, StagedRow, ItemKey, same_item, item_key, least_key, BinKey, same_bin, bin_key, LotKey, same_lot, lot_key, recall_key, StockKey, same_stock, stock_key, StagedKey, same_staged, staged_key, ReservedKey, same_reserved, reserved_key, OrderKey, same_order, order_key, urgent_key, LineKey, same_line, line_key, Act, is_lot, has_line, tables_of, IsHistory, AreRows, and_both, or_false, or_first, or_later, same_text_is, same_text_refl, is_lot_is, is_lot_turned, is_lot_item, IsSlice, on_named_stage, has_touched_line, Slice, has_key, is_among, with_names, lots_on_stage, AreShipped, has_keys, once_keys}
 use Rattle.slices.proofs.KeysTold.{same_cell_is, same_cell_refl, same_share_is, same_share_refl, same_line_is, same_line_refl}
 use Rattle.slices.proofs.RowsTold.{rows_as}
 use Rattle.slices.proofs.SliceTold.{among_names, once_names, sought}
 use Rattle.slices.proofs.KeysRead.{keys_read}
 use Rattle.slices.proofs.LinesTold.{taken}
+use Rattle.slices.proofs.LinedOrders.{rows_told}
 use Rattle.slices.proofs.OwnRows.{own_any, any_kept, no_rows}
 
-module _ (first : ℤ) (acts : List Act) (key : Key) (order : List ℕ) (s : Slice) (meta : (tables_of first acts).meta ≡ Some s.meta) (are : AreShipped order (tables_of first acts) s.rows) where
+module _ (first : ℤ) (acts : List Act) (history : IsHistory first acts) (key : Key) (order : List ℕ) (s : Slice) (meta : (tables_of first acts).meta ≡ Some s.meta) (are : AreShipped order (tables_of first acts) s.rows) where
   abbrev t : Tables
   t = tables_of first acts
 
@@ -64,7 +65,7 @@ module _ (first : ℤ) (acts : List Act) (key : Key) (order : List ℕ) (s : Sli
     bins = no_rows {K = BinKey} same_bin bin_key (λ b. false) (λ b. list_any (λ r. same_text b r.bin) s.rows.stock) t.bin s.rows.bins are.no_bins none;
     orders = rows_as {K = OrderKey} same_order order_key same_text_is same_text_refl (is_among (order ∷ [])) (is_among (order ∷ [])) (λ o. same_text o order || false) (λ o. same_text o order || has_touched_line first act acts o) t.order s.rows.orders
         (λ o e. e) (λ o e. one_named o (has_touched_line first act acts o) e)
-        (sought {K = OrderKey} same_order order_key same_text_is same_text_refl (λ o. o) t.order (order ∷ []) (is_among (order ∷ [])) s.rows.orders refl (λ x. refl) are.named.orders);
+        (sought {K = OrderKey} same_order order_key same_text_is same_text_refl (λ o. o) t.order (order ∷ []) (is_among (order ∷ [])) s.rows.orders refl (λ x. refl) (rows_told first acts history (order ∷ []) s.rows.orders are.named.orders));
     urgents = no_rows {K = OrderKey} same_order urgent_key (λ o. false) (λ o. same_text o order || has_touched_line first act acts o) t.urgent s.rows.urgents are.no_urgents none;
     lines = rows_as {K = LineKey} same_line line_key same_line_is same_line_refl (λ k. is_among (order ∷ []) k.0) (λ k. is_among (order ∷ []) k.0) (λ k. same_text k.0 order || false) (λ k. same_text k.0 order || touched k.1) (λ k. t.line k.0 k.1) s.rows.lines
         (λ k e. e) (λ k e. one_named k.0 (touched k.1) e)

@@ -9,6 +9,7 @@ use Rattle.slices.proofs.OwnRows.{own_any, no_rows}
 use Rattle.slices.proofs.PickRight.{pick_right}
 use Rattle.slices.proofs.ShipmentRight.{shipment_right}
 use Rattle.slices.proofs.LinesTold.{line_some, taken}
+use Rattle.slices.proofs.LinedOrders.{rows_told}
 use Rattle.slices.proofs.DayTold.{affected_told, affected_once}
 use Rattle.slices.proofs.KnownOrders.{has_line_of, orders_told, lines_told}
 use Rattle.slices.proofs.UrgentOrders.{urgents_told}
@@ -283,7 +284,7 @@ module _ (first : ℤ) (acts : List Act) where
       orders_allowed o = is_among (orders_named command) o || has_line_of gtins t o
 
       order_rows : AreRows {K = OrderKey} same_order order_key orders_needed orders_allowed t.order s.rows.orders
-      order_rows = orders_told known.lines (orders_named command) gtins t holds.lines keyed (order_once command) once s.rows.orders s.rows.lines rows.ordered
+      order_rows = orders_told known.lines (orders_named command) gtins t holds.lines keyed (order_once command) once s.rows.orders s.rows.lines rows.ordered (rows_told first acts history (orders_named command) rows.ordered.own rows.ordered.is_own.orders)
 
       allowed_so : (o : List ℕ) → orders_allowed o ≡ true → names_order command o || has_touched_line first act acts o ≡ true
       allowed_so o e = ap (λ b. b || has_touched_line first act acts o) (sym (order_told command o)) ∙ ap (λ b. is_among (orders_named command) o || b) (sym (touched_line o)) ∙ e
@@ -350,6 +351,6 @@ module _ (first : ℤ) (acts : List Act) where
 -- by what the command is
 pub slice_right : (first : ℤ) (acts : List Act) (key : Key) (command : Command) (known : Known) → HoldsOf known (tables_of first acts) → IsHistory first acts → (s : Slice) → (tables_of first acts).meta ≡ Some s.meta
     → AreCounts known.bounds command (tables_of first acts) s.items s.bins → AreSliced known command (tables_of first acts) s.rows → IsSlice first (record { key = key; command = command }) acts (tables_of first acts) s
-slice_right first acts key (Ship o) known holds history s meta counted are = shipment_right first acts key o s meta are
+slice_right first acts key (Ship o) known holds history s meta counted are = shipment_right first acts history key o s meta are
 slice_right first acts key (Pick p) known holds history s meta counted are = pick_right first acts key p s meta are
 slice_right first acts key command known holds history s meta counted are = planned_right first acts key command known holds refl refl history s meta counted are

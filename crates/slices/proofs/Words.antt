@@ -9,7 +9,7 @@ pub use Rattle.std.proofs.Common.{◌≡◌, inl, inr, ℕ, ◌<◌, ◌≤◌, 
 pub use Rattle.std.proofs.Math.Seq.{drop-length}
 pub use Rattle.std.proofs.lemmas.Bool.{cases_Bool, eqb-true}
 pub use Rattle.std.proofs.lemmas.Bool.Decides.{nat_tests}
-pub use Rattle.std.proofs.lemmas.List.{take_more, map_more, take_all}
+pub use Rattle.std.proofs.lemmas.List.{take_more, map_more, take_all, nil_from_length}
 pub use Rattle.sqlite.specs.Effect.{Database}
 pub use Rattle.sqlite.specs.Held.{state}
 pub use Rattle.sqlite.specs.State.{State, HasCleanDisk, Survives, KeepsCommit, IsUnchanged}
@@ -17,9 +17,11 @@ pub use Rattle.sqlite.specs.declared.error.Error.{Error}
 pub use Rattle.sqlite.specs.declared.error.Error.TheVariants.{SqliteFailure}
 pub use Rattle.sqlite.specs.declared.error.ErrorCode.TheVariants.{OutOfMemory}
 pub use Rattle.sqlite_value.specs.Order.{column}
-pub use Rattle.values.specs.Values.{same_text}
+pub use Rattle.values.specs.Values.{same_text, is_name, is_title}
 pub use Rattle.values.specs.declared.lot.LotId.{LotId}
+pub use Rattle.commands.specs.Limits.{has_order_lines}
 pub use Rattle.commands.specs.Names.{names_of, is_picked}
+pub use Rattle.commands.specs.Sound.{is_order_line, are_lines, is_sound}
 pub use Rattle.commands.specs.Tables.{Tables}
 pub use Rattle.commands.specs.declared.command.Command.{Command}
 pub use Rattle.commands.specs.declared.command.Command.TheVariants.{Item, Bin, OpenDay, Pick, Ship, Receive, Move, Count, Adjust, Order, Urgent, Cancel, Unpick, Hold, Release, Recall, Least}
@@ -50,7 +52,7 @@ pub use Rattle.machine.specs.KeyedRows.{no_two, AreOwn, AreRows}
 pub use Rattle.machine.specs.Once.{IsHistory}
 pub use Rattle.machine.specs.Planning.{is_open_state, staged_of_lot, order_state, is_open, shipped_of}
 pub use Rattle.machine.specs.Postings.{of_item, is_lot}
-pub use Rattle.machine.specs.Standing.{items, item_named, least_days, KnownLot, lots, lots_of, lot_known, has_lot, is_held, recalling, is_recalled, is_expired, today, is_shippable, orders, order_named, has_order, lines_of, has_line, item_in, bins, Placed, lines_placed, is_cancelled}
+pub use Rattle.machine.specs.Standing.{items, item_named, least_days, KnownLot, lots, lots_of, lot_known, has_lot, is_held, recalling, is_recalled, is_expired, today, is_shippable, orders, order_named, has_order, lines_of, has_line, item_in, bins, Placed, lines_placed, is_cancelled, order_in}
 pub use Rattle.machine.specs.Tables.{least_row, if_any, meta_row}
 unfoldable pub use Rattle.machine.specs.Tables.{tables_of}
 pub use Rattle.machine.specs.Touched.{is_affected, touches}
@@ -72,9 +74,9 @@ pub use Rattle.row_rules.proofs.Walking.{append_none, IsKept}
 pub use Rattle.rules.specs.Slices.{IsSlice, has_touched_line, on_named_stage, names_order, names_bin, names_lot, counts_items, counts_bins, ships, picks, plans, takes_step, is_share, names_reserved, is_named, is_named_lot, is_either, in_bins, on_stages, is_item, is_bin}
 pub use Rattle.rules.proofs.rows.SliceTells.{some_mapped, names_touched}
 pub use Rattle.rules.proofs.rows.Telling.{found_key}
-pub use Rattle.rows_in_memory.specs.Keyed.{same_lot_row, same_order_row, same_urgent_row, same_line_row, same_staged_row, same_reserved_row, same_stock_row}
+pub use Rattle.rows_in_memory.specs.Keyed.{same_lot_row, same_urgent_row, same_line_row, same_staged_row, same_reserved_row, same_stock_row}
 pub use Rattle.rows_in_memory.specs.Keys.{has_key, with_keys}
-pub use Rattle.rows_in_memory.specs.KnownRows.{RowMap, rows_at, without_row, with_put, each_changed, ChangesBy, Remembers, ForgetsBy, LearnsAt}
+pub use Rattle.rows_in_memory.specs.KnownRows.{RowMap, rows_at, KnowsNone, without_row, with_put, each_changed, ChangesBy, last_set, SetsBy, Remembers, ForgetsBy, LearnsAt}
 pub use Rattle.rows_in_memory.specs.LineOrder.{turned_line, line_key_cmp, lines_told, lines_exact}
 pub use Rattle.rows_in_memory.specs.LotOrder.{lot_key as turned_lot, lot_key_cmp}
 pub use Rattle.rows_in_memory.specs.NameOrder.{names_told, names_exact}
@@ -108,10 +110,10 @@ pub use Rattle.tables.specs.Urgents.{AreUrgentsOf}
 pub use Rattle.slices.specs.Books.{IsBooksOf}
 pub use Rattle.slices.specs.Bounding.{IsAtMost, AreBounds, IsToldNumber, with_counts, IsRaised}
 pub use Rattle.slices.specs.ByLot.{AreLotsOf}
-pub use Rattle.slices.specs.Following.{KnowsFollowed, KnowsNoneFollowed, KnowsMeta, StageForgotten, StageLeft}
+pub use Rattle.slices.specs.Following.{KnowsFollowed, KnowsNoneFollowed, KnowsMeta, StageEmptied, StageLeft}
 pub use Rattle.slices.specs.Reading.{IsCount, Each, IsRead, Knowing}
 pub use Rattle.slices.specs.Remembering.{KnowsRows, KnowsNoRows, Learning, ForgetsPut, IsAlone, LearnsEach}
-pub use Rattle.slices.specs.Slicing.{AreCounts, is_among, is_passed, is_open_in, with_names, other_names, has_urgent_row, urgent_lines, opens, opened_by, comes, Covers, CoversUrgent, AreAllLines, AreUrgents, AreNamed, AreKnownOrders, AreOpenLines, AreLinesPut, AreUrgentsPut, Knows, is_ending, items_of_lots, AreEnding, AreAffected, listed, has_line_in, AreLinesOfItem, AreLinesOfItems, AreOrders, HoldsOf, ArePicked, AreLinesOf, AreLinesFor, lots_on_stage, AreShipped, IsSliceOf, IsSliceIn, AreSliced, orders_named, with_some, items_named, lots_named, bins_named, whole_orders, held_lots, AreTaken, AreTouched, ArePlanned, with_name, names_among, names_at, AreUrgentsFor, with_staged, not_recalled, AreStaged, AreBins, AreGoods}
+pub use Rattle.slices.specs.Slicing.{AreCounts, is_among, is_passed, is_open_in, with_names, other_names, has_urgent_row, urgent_lines, opens, opened_by, comes, Covers, CoversUrgent, AreAllLines, AreUrgents, AreLined, AreNamed, AreKnownOrders, AreOpenLines, AreLinesPut, AreUrgentsPut, Knows, is_ending, items_of_lots, AreEnding, AreAffected, listed, has_line_in, AreLinesOfItem, AreLinesOfItems, AreOrders, HoldsOf, ArePicked, AreLinesOf, AreLinesFor, lots_on_stage, AreShipped, IsSliceOf, IsSliceIn, AreSliced, orders_named, with_some, items_named, lots_named, bins_named, whole_orders, held_lots, AreTaken, AreTouched, ArePlanned, with_name, names_among, names_at, AreUrgentsFor, with_staged, not_recalled, AreStaged, AreBins, AreGoods}
 pub use Rattle.slices.specs.declared.followed.Followed.{Followed}
 pub use Rattle.slices.specs.declared.knowing.Bounds.{Bounds}
 pub use Rattle.slices.specs.declared.knowing.Known.{Known}

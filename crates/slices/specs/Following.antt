@@ -1,8 +1,8 @@
 -- The rows that are known, and that follow what is written.
-use Rattle.std.specs.Prelude.{◌≡◌, ◌⊎◌, ℕ, List, reverse, Option, Some, None, IfSome}
+use Rattle.std.specs.Prelude.{◌≡◌, ◌⊎◌, ℕ, List, [], reverse, Option, Some, None, IfSome}
 use Rattle.std.specs.Ordering.{nat_cmp}
 use Rattle.std.specs.Cmp.Lexicographic.{slice_cmp}
-use Rattle.slices.specs.Words.{Tables, LineRow, LotRow, MetaRow, OrderRow, ReservedRow, StagedRow, StockRow, UrgentRow, Put, RowMap, rows_at, KnowsNone, ForgetsAt, ChangesBy, Remembers, with_put, without_row}
+use Rattle.slices.specs.Words.{Tables, LineRow, LotRow, MetaRow, OrderRow, ReservedRow, StagedRow, StockRow, UrgentRow, Put, RowMap, rows_at, KnowsNone, ChangesAt, ChangesBy, SetsBy, Remembers, with_put, without_row}
 use Rattle.values.specs.declared.lot_key.LotKey.{LotKey}
 use Rattle.rows_in_memory.specs.LotOrder.{lot_key as turned_lot, lot_key_cmp}
 use Rattle.rows_in_memory.specs.declared.line_keys.LineKey.{LineKey}
@@ -16,7 +16,7 @@ use Rattle.tables.specs.Orders.{AreOrdersOf}
 use Rattle.tables.specs.Reserved.{AreReservedOfItem, AreReservedOfOrder}
 use Rattle.tables.specs.Staged.{AreStagedOfItem, AreStagedOfOrder}
 use Rattle.tables.specs.Urgents.{AreUrgentsOf}
-use Rattle.rows_in_memory.specs.Keyed.{same_lot_row, same_stock_row, same_order_row, same_urgent_row, same_line_row, same_staged_row, same_reserved_row}
+use Rattle.rows_in_memory.specs.Keyed.{same_lot_row, same_stock_row, same_urgent_row, same_line_row, same_staged_row, same_reserved_row}
 use Rattle.slices.specs.declared.followed.Followed.{Followed}
 
 -- What is known of one table is so
@@ -107,8 +107,8 @@ LotsPut puts old new = ChangesBy lot_key_cmp (λ (r : LotRow). turned_lot r.lot)
 abbrev pub LotsOfPut : Put → RowMap (List ℕ) LotRow → RowMap (List ℕ) LotRow → Type 0
 LotsOfPut puts old new = ChangesBy (slice_cmp nat_cmp) (λ (r : LotRow). reverse r.lot.gtin) (with_put same_lot_row) puts.lots old new
 
-abbrev pub OrdersPut : Put → RowMap (List ℕ) OrderRow → RowMap (List ℕ) OrderRow → Type 0
-OrdersPut puts old new = ChangesBy (slice_cmp nat_cmp) (λ (r : OrderRow). reverse r.order) (with_put same_order_row) puts.orders old new
+abbrev pub OrdersSet : Put → RowMap (List ℕ) OrderRow → RowMap (List ℕ) OrderRow → Type 0
+OrdersSet puts old new = SetsBy (slice_cmp nat_cmp) (λ (r : OrderRow). reverse r.order) puts.orders old new
 
 abbrev pub UrgentsPut : Put → RowMap (List ℕ) UrgentRow → RowMap (List ℕ) UrgentRow → Type 0
 UrgentsPut puts old new = ChangesBy (slice_cmp nat_cmp) (λ (r : UrgentRow). reverse r.order) (with_put same_urgent_row) puts.urgents old new
@@ -149,10 +149,10 @@ StageLeft (Some order) stages old new = StageGone order stages old new
 abbrev pub StagedFollows : Put → Dropped → (stages old new : RowMap (List ℕ) StagedRow) → Type 0
 StagedFollows puts drops stages old new = (mid : RowMap (List ℕ) StagedRow) × StageLeft drops.stage stages old mid × StagedChanges puts drops mid new
 
--- nothing is known by an order whose stage was emptied
-abbrev pub StageForgotten : Option (List ℕ) → RowMap (List ℕ) StagedRow → RowMap (List ℕ) StagedRow → Type 0
-StageForgotten None old new = new ≡ old
-StageForgotten (Some order) old new = ForgetsAt (slice_cmp nat_cmp) (reverse order) old new
+-- by an order whose stage was emptied there are no rows
+abbrev pub StageEmptied : Option (List ℕ) → RowMap (List ℕ) StagedRow → RowMap (List ℕ) StagedRow → Type 0
+StageEmptied None old new = new ≡ old
+StageEmptied (Some order) old new = ChangesAt (slice_cmp nat_cmp) (reverse order) (λ rows. []) old new
 
 abbrev pub StagedForDropped : Dropped → RowMap (List ℕ) StagedRow → RowMap (List ℕ) StagedRow → Type 0
 StagedForDropped drops old new = ChangesBy (slice_cmp nat_cmp) (λ (r : StagedRow). reverse r.order) (without_row same_staged_row) drops.staged old new
@@ -161,7 +161,7 @@ abbrev pub StagedForPut : Put → RowMap (List ℕ) StagedRow → RowMap (List �
 StagedForPut puts old new = ChangesBy (slice_cmp nat_cmp) (λ (r : StagedRow). reverse r.order) (with_put same_staged_row) puts.staged old new
 
 abbrev pub StagedForFollows : Put → Dropped → RowMap (List ℕ) StagedRow → RowMap (List ℕ) StagedRow → Type 0
-StagedForFollows puts drops old new = (left : RowMap (List ℕ) StagedRow) × (mid : RowMap (List ℕ) StagedRow) × StageForgotten drops.stage old left × StagedForDropped drops left mid × StagedForPut puts mid new
+StagedForFollows puts drops old new = (left : RowMap (List ℕ) StagedRow) × (mid : RowMap (List ℕ) StagedRow) × StageEmptied drops.stage old left × StagedForDropped drops left mid × StagedForPut puts mid new
 
 abbrev pub ReservedDropped : Dropped → RowMap (List ℕ) ReservedRow → RowMap (List ℕ) ReservedRow → Type 0
 ReservedDropped drops old new = ChangesBy (slice_cmp nat_cmp) (λ (r : ReservedRow). reverse r.lot.gtin) (without_row same_reserved_row) drops.reserved old new
@@ -184,7 +184,7 @@ ReservedForFollows puts drops old new = (mid : RowMap (List ℕ) ReservedRow) ×
 pub record Follows (c : Change) (old new : Followed) : Type 0 where
   pub lots : LotsPut c.put old.lots.rows new.lots.rows
   pub lots_of : LotsOfPut c.put old.lots_of.rows new.lots_of.rows
-  pub orders : OrdersPut c.put old.orders.rows new.orders.rows
+  pub orders : OrdersSet c.put old.orders.rows new.orders.rows
   pub urgents : UrgentsPut c.put old.urgents.rows new.urgents.rows
   pub lines : LinesPut c.put old.lines.rows new.lines.rows
   pub lines_at : LinesAtPut c.put old.lines_at.rows new.lines_at.rows

@@ -1,5 +1,5 @@
 -- The rows that a slice is made of.
-use Rattle.std.specs.Prelude.{◌≡◌, ℕ, ℤ, Bool, true, false, ◌&&◌, ◌||◌, List, [], ◌∷◌, ◌++◌, map, filter, Option, Some, None, is_some}
+use Rattle.std.specs.Prelude.{◌≡◌, ◌⊎◌, ℕ, ℤ, Bool, true, false, ◌&&◌, ◌||◌, List, [], ◌∷◌, ◌++◌, map, filter, Option, Some, None, is_some}
 use Rattle.values.specs.Values.{same_text}
 use Rattle.slices.specs.Words.{LotId, names_of, Tables, Command, ITEMS_MAX, BINS_MAX, MetaRow, ItemRow, LeastRow, BinRow, LotRow, RecallRow, StockRow, OrderRow, UrgentRow, LineRow, StagedRow, ReservedRow, AreRows, only_if, same_lot_id, ItemKey, same_item, item_key, least_key, BinKey, same_bin, bin_key, LotKey, same_lot, lot_key, recall_key, StockKey, same_stock, stock_key, OrderKey, same_order, order_key, is_open_order, urgent_key, LineKey, same_line, line_key, StagedKey, same_staged, staged_key, ReservedKey, same_reserved, reserved_key, is_asking, Act, tables_of, Put}
 use Rattle.commands.specs.declared.key.Key.{Key}
@@ -68,9 +68,13 @@ AreLines gtins order_rows t line_rows = Each (λ o found. AreLinesOf gtins t o f
 abbrev pub AreAllLines : List (List ℕ) → Tables → List LineRow → Type 0
 AreAllLines named t line_rows = Each (λ o found. AreRows {K = LineKey} same_line line_key (λ k. same_text o k.0) (λ k. t.line k.0 k.1) found) named line_rows
 
--- the rows and all lines of the orders named
+-- the row of an order, which is not sought where the order has no lines
+abbrev pub AreLined : List ℕ → Tables → List OrderRow → Type 0
+AreLined o t order_rows = ((order_rows ≡ []) × ((g : List ℕ) → t.line o g ≡ None)) ⊎ AreRows {K = OrderKey} same_order order_key (λ k. same_text o k) t.order order_rows
+
+-- all lines of the orders named, and the rows of those that have lines
 pub record AreNamed (named : List (List ℕ)) (t : Tables) (order_rows : List OrderRow) (line_rows : List LineRow) : Type 0 where
-  pub orders : Each (λ o found. AreRows {K = OrderKey} same_order order_key (λ k. same_text o k) t.order found) named order_rows
+  pub orders : Each (λ o found. AreLined o t found) named order_rows
   pub lines : AreAllLines named t line_rows
 
 -- the lines of the items in open orders that are not named, and the rows of those orders
@@ -79,17 +83,6 @@ pub record AreOpen (named gtins : List (List ℕ)) (t : Tables) (order_rows : Li
   pub read : AreRows {K = OrderKey} same_order order_key (λ key. true) (λ key. only_if is_open_order (t.order key)) all
   pub lines : AreLines gtins (others named all) t line_rows
   pub orders : order_rows ≡ with_lines line_rows (others named all)
-
--- the two together
-pub record AreOrdered (named gtins : List (List ℕ)) (t : Tables) (order_rows : List OrderRow) (line_rows : List LineRow) : Type 0 where
-  pub own : List OrderRow
-  pub own_lines : List LineRow
-  pub rest : List OrderRow
-  pub rest_lines : List LineRow
-  pub is_own : AreNamed named t own own_lines
-  pub is_rest : AreOpen named gtins t rest rest_lines
-  pub orders : order_rows ≡ own ++ rest
-  pub lines : line_rows ≡ own_lines ++ rest_lines
 
 -- By what is known of the open orders
 

@@ -19,7 +19,7 @@ pub use Rattle.commands.specs.declared.rows.UrgentRow.{UrgentRow}
 pub use Rattle.machine.specs.Acts.{Act}
 pub use Rattle.machine.specs.Tables.{tables_of}
 pub use Rattle.row_rules.specs.declared.slice.Put.{Put}
-pub use Rattle.rows_in_memory.specs.KnownRows.{RowMap, rows_at, KnowsNone, ForgetsAt, ChangesBy, Remembers, with_put, without_row, ForgetsBy}
+pub use Rattle.rows_in_memory.specs.KnownRows.{RowMap, rows_at, KnowsNone, ChangesAt, ChangesBy, SetsBy, Remembers, with_put, without_row, ForgetsBy}
 pub use Rattle.table_words.specs.Found.{AreRows, only_if}
 pub use Rattle.table_words.specs.Steps.{IsReady}
 pub use Rattle.table_words.specs.Typed.{tables_in, AreTyped, same_lot_id, LotKey, same_lot, lot_key, StockKey, same_stock, stock_key, ItemKey, same_item, item_key, least_key, BinKey, same_bin, bin_key, recall_key, OrderKey, same_order, order_key, is_open_order, urgent_key, LineKey, same_line, line_key, StagedKey, same_staged, staged_key, ReservedKey, same_reserved, reserved_key}

@@ -1,7 +1,7 @@
 //! Rows that are known, and that follow what is written.
 
 ghost use Rattle.std.specs.Prelude.{◌≡◌, Some};
-ghost use Rattle.slices.specs.Following.{KnowsNoneFollowed, StockFollows, StagedChanges, StageGone, StageLeft, StagedFollows, StageForgotten, StagedForFollows, ReservedFollows, ReservedForFollows, Follows};
+ghost use Rattle.slices.specs.Following.{KnowsNoneFollowed, StockFollows, StagedChanges, StageGone, StageLeft, StagedFollows, StageEmptied, StagedForFollows, ReservedFollows, ReservedForFollows, Follows};
 
 use commands::{LineRow, LotRow, MetaRow, OrderRow, ReservedRow, StagedRow, StockRow, UrgentRow};
 use rows_in_memory::{KnownRows, LineKey};
@@ -97,12 +97,12 @@ fn follow_staged(
     change_staged(staged, put, dropped);
 }
 
-/// Nothing is known by the order whose stage a change empties, if it empties one.
-fn forget_stage(stages: &mut KnownRows<Name, TextKey, StagedRow>, stage: Option<Name>)
-    ensures { StageForgotten stage stages.old.rows stages.new.rows }
+/// Without the stage that a change empties, if it empties one, by the order.
+fn empty_stage_for(stages: &mut KnownRows<Name, TextKey, StagedRow>, stage: Option<Name>)
+    ensures { StageEmptied stage stages.old.rows stages.new.rows }
 {
     if let Some(order) = stage {
-        stages.forget(&order);
+        stages.empty(&order);
     }
 }
 
@@ -110,7 +110,7 @@ fn forget_stage(stages: &mut KnownRows<Name, TextKey, StagedRow>, stage: Option<
 fn follow_staged_for(stages: &mut KnownRows<Name, TextKey, StagedRow>, put: &Put, dropped: &Dropped)
     ensures { StagedForFollows put.now dropped.now stages.old.rows stages.new.rows }
 {
-    forget_stage(stages, dropped.stage);
+    empty_stage_for(stages, dropped.stage);
     stages.drop_all(dropped.staged.as_slice());
     stages.put_all(put.staged.as_slice());
 }
@@ -135,7 +135,7 @@ fn follow_reserved_for(
 )
     ensures { ReservedForFollows put.now dropped.now reserved.old.rows reserved.new.rows }
 {
-    reserved.drop_all(dropped.reserved.as_slice());
+    reserved.lose_all(dropped.reserved.as_slice());
     reserved.put_all(put.reserved.as_slice());
 }
 
@@ -173,7 +173,7 @@ impl Followed {
     {
         self.lots.put_all(change.put.lots.as_slice());
         self.lots_of.put_all(change.put.lots.as_slice());
-        self.orders.put_all(change.put.orders.as_slice());
+        self.orders.set_all(change.put.orders.as_slice());
         self.urgents.put_all(change.put.urgents.as_slice());
         self.lines.put_all(change.put.lines.as_slice());
         self.lines_at.put_all(change.put.lines.as_slice());

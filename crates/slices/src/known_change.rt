@@ -15,6 +15,7 @@ ghost use Rattle.slices.specs.Slicing.{Knows, opened_by, AreLinesPut, AreUrgents
 
 use crate::followed::Followed;
 use crate::knowing::Known;
+use crate::known_lists::urgents_among;
 use crate::seek_all_known;
 use commands::{LineRow, UrgentRow};
 use rows_in_memory::KnownRows;
@@ -25,7 +26,6 @@ use sqlite::{Alter, Transaction};
 use std::alloc::{AllocError, Global};
 use table_words::error::TableFault;
 use tables::lines::Lines;
-use tables::urgents::Urgents;
 use values::{Name, TextKey};
 
 /// The orders that the change opens, and those that it puts as urgent ones.
@@ -68,12 +68,7 @@ fn read_urgent_orders<S: Alter>(
     ensures read { IsRead (Knowing (λ t. KnowsUrgents t known.old.rows) (λ t. KnowsUrgents t known.new.rows) (λ t rows. AreUrgentsPut put.now lines.now t rows.items)) (state S.Store tx.old.conn.now) (state S.Store tx.new.conn.now) result }
 {
     let names = orders_of_lines(alloc, lines)?;
-    let mut urgents = seek_all_known::<Urgents, Name, TextKey, S>(
-        alloc,
-        tx,
-        known,
-        names.as_slice(),
-    )?;
+    let mut urgents = urgents_among(alloc, tx, known, names.as_slice())?;
     urgents.extend_from_slice(put.urgents.as_slice())?;
     Ok(urgents)
 }

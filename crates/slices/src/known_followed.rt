@@ -86,18 +86,21 @@ pub fn seek_stock_of_lots<S: Alter>(
     Ok(found)
 }
 
-// All that is staged is known by the item from then on, if it is not too much.
+// Where it is wanted, all that is staged is known by the item and by the order from then on, if it is not too much.
 fn know_staged<S: Alter>(
     alloc: Global,
     tx: &mut Transaction<'_, S>,
     rows: &mut RowsKnown,
+    is_wanted: bool,
 ) -> Result<(), TableFault>
     ensures same_reference { tx.new.conn.ghost_name ≡ tx.old.conn.ghost_name }
     ensures read { IsRead (Learning rows.old rows.new (λ t u. ⊤)) (state S.Store tx.old.conn.now) (state S.Store tx.new.conn.now) result }
 {
-    if rows.followed.staged.wants_all() {
-        let all = read_rows::<Staged, All, S>(alloc, tx, &All)?;
-        rows.followed.staged.keep_all(all.as_slice());
+    if is_wanted {
+        let found = read_rows::<Staged, All, S>(alloc, tx, &All)?;
+        let all = found.as_slice();
+        rows.followed.staged.keep_all(all);
+        rows.followed.staged_for.keep_all(all);
     }
     Ok(())
 }
@@ -112,11 +115,12 @@ pub fn seek_staged<S: Alter>(
     ensures same_reference { tx.new.conn.ghost_name ≡ tx.old.conn.ghost_name }
     ensures read { IsRead (Learning rows.old rows.new (λ t found. AreStaged gtins.now t found.items)) (state S.Store tx.old.conn.now) (state S.Store tx.new.conn.now) result }
 {
-    know_staged(alloc, tx, rows)?;
+    let is_wanted = rows.followed.staged.wants_all();
+    know_staged(alloc, tx, rows, is_wanted)?;
     seek_all_known::<Staged, Gtin, TextKey, S>(alloc, tx, &mut rows.followed.staged, gtins)
 }
 
-/// What is staged for an order.
+/// What is staged for an order, among all that is staged.
 pub fn seek_staged_for<S: Alter>(
     alloc: Global,
     tx: &mut Transaction<'_, S>,
@@ -126,6 +130,8 @@ pub fn seek_staged_for<S: Alter>(
     ensures same_reference { tx.new.conn.ghost_name ≡ tx.old.conn.ghost_name }
     ensures read { IsRead (Learning rows.old rows.new (λ t found. AreStagedOfOrder order.now t found.items)) (state S.Store tx.old.conn.now) (state S.Store tx.new.conn.now) result }
 {
+    let is_wanted = rows.followed.staged_for.wants_all();
+    know_staged(alloc, tx, rows, is_wanted)?;
     seek_known::<Staged, Name, TextKey, S>(alloc, tx, &mut rows.followed.staged_for, order)
 }
 
@@ -144,18 +150,21 @@ pub fn seek_staged_of<S: Alter>(
     Ok(own)
 }
 
-// All that is reserved is known by the item from then on, if it is not too much.
+// Where it is wanted, all that is reserved is known by the item and by the order from then on, if it is not too much.
 fn know_reserved<S: Alter>(
     alloc: Global,
     tx: &mut Transaction<'_, S>,
     rows: &mut RowsKnown,
+    is_wanted: bool,
 ) -> Result<(), TableFault>
     ensures same_reference { tx.new.conn.ghost_name ≡ tx.old.conn.ghost_name }
     ensures read { IsRead (Learning rows.old rows.new (λ t u. ⊤)) (state S.Store tx.old.conn.now) (state S.Store tx.new.conn.now) result }
 {
-    if rows.followed.reserved.wants_all() {
-        let all = read_rows::<Reserved, All, S>(alloc, tx, &All)?;
-        rows.followed.reserved.keep_all(all.as_slice());
+    if is_wanted {
+        let found = read_rows::<Reserved, All, S>(alloc, tx, &All)?;
+        let all = found.as_slice();
+        rows.followed.reserved.keep_all(all);
+        rows.followed.reserved_for.keep_all(all);
     }
     Ok(())
 }
@@ -170,11 +179,12 @@ pub fn seek_reserved<S: Alter>(
     ensures same_reference { tx.new.conn.ghost_name ≡ tx.old.conn.ghost_name }
     ensures read { IsRead (Learning rows.old rows.new (λ t found. Each (λ g found_rows. AreReservedOfItem g t found_rows) gtins.now found.items)) (state S.Store tx.old.conn.now) (state S.Store tx.new.conn.now) result }
 {
-    know_reserved(alloc, tx, rows)?;
+    let is_wanted = rows.followed.reserved.wants_all();
+    know_reserved(alloc, tx, rows, is_wanted)?;
     seek_all_known::<Reserved, Gtin, TextKey, S>(alloc, tx, &mut rows.followed.reserved, gtins)
 }
 
-/// What is reserved for an order.
+/// What is reserved for an order, among all that is reserved.
 pub fn seek_reserved_for<S: Alter>(
     alloc: Global,
     tx: &mut Transaction<'_, S>,
@@ -184,6 +194,8 @@ pub fn seek_reserved_for<S: Alter>(
     ensures same_reference { tx.new.conn.ghost_name ≡ tx.old.conn.ghost_name }
     ensures read { IsRead (Learning rows.old rows.new (λ t found. AreReservedOfOrder order.now t found.items)) (state S.Store tx.old.conn.now) (state S.Store tx.new.conn.now) result }
 {
+    let is_wanted = rows.followed.reserved_for.wants_all();
+    know_reserved(alloc, tx, rows, is_wanted)?;
     seek_known::<Reserved, Name, TextKey, S>(alloc, tx, &mut rows.followed.reserved_for, order)
 }
 

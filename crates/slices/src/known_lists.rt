@@ -1,18 +1,20 @@
 //! Orders, lines and rows of urgent orders that are sought, from what is known of them, and from the tables where nothing is.
 
-ghost use Rattle.std.specs.Prelude.{◌≡◌};
+ghost use Rattle.std.specs.Prelude.{◌≡◌, ⊤};
 ghost use Rattle.sqlite.specs.Held.{state};
-ghost use Rattle.tables.specs.Lines.{AreLineOf};
+ghost use Rattle.tables.specs.Lines.{AreLineOf, AreLinesOfOrder};
 ghost use Rattle.tables.specs.Orders.{AreOrdersOf};
 ghost use Rattle.commands.specs.Tables.{Tables};
-ghost use Rattle.slices.specs.Following.{KnowsLines, KnowsLinesAt};
-ghost use Rattle.slices.specs.Reading.{IsRead};
+ghost use Rattle.slices.specs.Following.{KnowsLines, KnowsLinesAt, KnowsUrgents};
+ghost use Rattle.slices.specs.Reading.{IsRead, Knowing};
 ghost use Rattle.slices.specs.Remembering.{Learning};
 ghost use Rattle.slices.specs.Slicing.{AreAllLines, AreOrders, AreUrgents};
 
 use crate::rows_known::RowsKnown;
+use crate::sought_rows::read_rows;
 use crate::{seek_all_known, seek_known};
 use commands::{LineRow, OrderRow, UrgentRow};
+use keyed_rows::reading::All;
 use row_rules::row_search::rows_with;
 use rows_in_memory::{KnownRows, LineKey};
 use sqlite::{Alter, Transaction};
@@ -47,6 +49,19 @@ pub fn seek_orders<S: Alter>(
     ensures read { IsRead (Learning rows.old rows.new (λ t found. AreOrders orders.now t found.items)) (state S.Store tx.old.conn.now) (state S.Store tx.new.conn.now) result }
 {
     seek_all_known::<Orders, Name, TextKey, S>(alloc, tx, &mut rows.followed.orders, orders)
+}
+
+/// All lines of an order.
+pub fn seek_lines_of<S: Alter>(
+    alloc: Global,
+    tx: &mut Transaction<'_, S>,
+    rows: &mut RowsKnown,
+    order: &Name,
+) -> Result<Vec<LineRow>, TableFault>
+    ensures same_reference { tx.new.conn.ghost_name ≡ tx.old.conn.ghost_name }
+    ensures read { IsRead (Learning rows.old rows.new (λ t found. AreLinesOfOrder order.now t found.items)) (state S.Store tx.old.conn.now) (state S.Store tx.new.conn.now) result }
+{
+    seek_known::<Lines, Name, TextKey, S>(alloc, tx, &mut rows.followed.lines, order)
 }
 
 /// All lines of orders, one order after another.
@@ -101,6 +116,36 @@ pub fn seek_line<S: Alter>(
     seek_known::<Lines, (Name, Gtin), LineKey, S>(alloc, tx, &mut rows.followed.lines_at, line)
 }
 
+// All urgent orders are known by their names from then on, if they are not too many.
+fn know_urgents<S: Alter>(
+    alloc: Global,
+    tx: &mut Transaction<'_, S>,
+    urgents: &mut KnownRows<Name, TextKey, UrgentRow>,
+) -> Result<(), TableFault>
+    ensures same_reference { tx.new.conn.ghost_name ≡ tx.old.conn.ghost_name }
+    ensures read { IsRead (Knowing (λ t. KnowsUrgents t urgents.old.rows) (λ t. KnowsUrgents t urgents.new.rows) (λ t u. ⊤)) (state S.Store tx.old.conn.now) (state S.Store tx.new.conn.now) result }
+{
+    if urgents.wants_all() {
+        let found = read_rows::<Urgents, All, S>(alloc, tx, &All)?;
+        urgents.keep_all(found.as_slice());
+    }
+    Ok(())
+}
+
+/// The rows of the urgent ones among these orders, which are read all at once.
+pub fn urgents_among<S: Alter>(
+    alloc: Global,
+    tx: &mut Transaction<'_, S>,
+    urgents: &mut KnownRows<Name, TextKey, UrgentRow>,
+    orders: &[Name],
+) -> Result<Vec<UrgentRow>, TableFault>
+    ensures same_reference { tx.new.conn.ghost_name ≡ tx.old.conn.ghost_name }
+    ensures read { IsRead (Knowing (λ t. KnowsUrgents t urgents.old.rows) (λ t. KnowsUrgents t urgents.new.rows) (λ t found. AreUrgents orders.now t found.items)) (state S.Store tx.old.conn.now) (state S.Store tx.new.conn.now) result }
+{
+    know_urgents(alloc, tx, urgents)?;
+    seek_all_known::<Urgents, Name, TextKey, S>(alloc, tx, urgents, orders)
+}
+
 /// The rows of the urgent ones among these orders.
 pub fn seek_urgents<S: Alter>(
     alloc: Global,
@@ -111,5 +156,5 @@ pub fn seek_urgents<S: Alter>(
     ensures same_reference { tx.new.conn.ghost_name ≡ tx.old.conn.ghost_name }
     ensures read { IsRead (Learning rows.old rows.new (λ t found. AreUrgents orders.now t found.items)) (state S.Store tx.old.conn.now) (state S.Store tx.new.conn.now) result }
 {
-    seek_all_known::<Urgents, Name, TextKey, S>(alloc, tx, &mut rows.followed.urgents, orders)
+    urgents_among(alloc, tx, &mut rows.followed.urgents, orders)
 }

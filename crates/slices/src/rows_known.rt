@@ -39,6 +39,17 @@ impl RowsKnown {
         }
     }
 
+    /// Nothing is known, and nothing will be kept: so no table is read whole for what is sought by an order.
+    pub fn for_one_query(alloc: Global) -> Self
+        ensures { KnowsNoRows result }
+    {
+        let mut rows = RowsKnown::new(alloc);
+        rows.followed.urgents.seek_alone();
+        rows.followed.staged_for.seek_alone();
+        rows.followed.reserved_for.seek_alone();
+        rows
+    }
+
     /// Forgets what is sought with one of the rows that a change puts, but for what follows what is written. It takes no memory.
     pub fn forget_put(&mut self, put: &Put)
         ensures forgets { ForgetsPut put.now self.old self.new }

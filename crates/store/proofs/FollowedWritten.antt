@@ -1,7 +1,7 @@
 -- The rows that follow what is written are those of the tables that a change leaves.
-use Rattle.store.proofs.Words.{◌≡◌, ℕ, Bool, false, inl, inr, List, refl, sym, ap, subst, ◌∙◌, if◌then◌else◌, reverse, Option, Some, None, IfSome, nat_cmp, is_eq, Ordering, slice_cmp, same_text, Tables, MetaRow, RepeatRow, StagedRow, AreRows, same_lot, same_line, same_staged, staged_key, with_repeat, without_staged, Change, turned_line, line_key_cmp, lines_told, turned_lot, lot_key_cmp, lots_told, names_told, with_row, without_row, each_written, AreStagedOfItem, AreStagedOfOrder, staged_laws, TableName, Meta, Lots, Orders, Urgents, Lines, Stock, Staged, Reserved, family, Row, described, look, puts, drops, stage_emptied, emptied, table_written, change_written, table_left, is_at, are_same, RowMap, rows_at, ChangesBy, Remembers, with_put, without_listed, remembers_none, known_as, known_put, known_dropped, KnowsStaged, KnowsStagedFor, KnowsMeta, KnowsFollowed, StageLeft, StagedFollows, StageForgotten, StagedForFollows, Follows, Followed}
+use Rattle.store.proofs.Words.{◌≡◌, ℕ, Bool, true, inl, inr, List, [], refl, sym, ap, subst, ◌∙◌, if◌then◌else◌, reverse, Option, Some, None, IfSome, nat_cmp, is_eq, Ordering, slice_cmp, same_text, Tables, MetaRow, OrderRow, RepeatRow, StagedRow, AreRows, same_lot, same_line, same_staged, staged_key, with_repeat, without_staged, Change, turned_line, line_key_cmp, lines_told, turned_lot, lot_key_cmp, lots_told, names_told, with_row, without_row, each_written, AreStagedOfItem, AreStagedOfOrder, staged_laws, TableName, Meta, Lots, Orders, Urgents, Lines, Stock, Staged, Reserved, family, Row, described, look, puts, drops, stage_emptied, emptied, table_written, change_written, table_left, is_at, are_same, RowMap, rows_at, ChangesBy, SetsBy, Remembers, with_put, without_listed, remembers_none, known_as, known_put, known_set, known_dropped, KnowsStaged, KnowsStagedFor, KnowsMeta, KnowsFollowed, StageLeft, StagedFollows, StageEmptied, StagedForFollows, Follows, Followed}
 use Rattle.whole_tables.specs.Family.{Key}
-use Rattle.store.proofs.StageEmptied.{staged_at, without_order, rows_gone, others_stay}
+use Rattle.store.proofs.StageEmptied.{staged_at, without_order, rows_gone, rows_left}
 
 -- What is known of one table, with the rows that are dropped from it and put into it, is known of what is written
 
@@ -19,6 +19,13 @@ module _ {B Q : Type 0} (cmp : Q → Q → Ordering) (key_of : B → Q) (same_by
       known_as cmp key_of same_by told (described n).same (described n).key (family n).laws.itself (family n).laws.one_key (look n) wanted owner owns (table_written c n t) left (sym is_left) new
       (known_put cmp key_of same_by told (described n).same (described n).key (family n).laws.itself (family n).laws.one_key (look n) wanted owner owns (with_row (described n))
       (λ r u. (family n).there (λ k. if is_at n k r then Some r else look n u k) u) (puts c n) dropped old new changes known)
+
+  -- where rows are sought by their whole key, each that is put is all that is known by it
+  pub set_known : ((by : B) (r : Row n) → same_by by (owner r) ≡ true → (k : Key n) → wanted by k ≡ true → is_at n k r ≡ true) → (old new : RowMap Q (Row n)) → SetsBy cmp (λ r. key_of (owner r)) (puts c n) old new → Knows dropped old → Knows left new
+  set_known whole old new sets known =
+      known_as cmp key_of same_by told (described n).same (described n).key (family n).laws.itself (family n).laws.one_key (look n) wanted owner owns (table_written c n t) left (sym is_left) new
+      (known_set cmp key_of same_by told (described n).same (described n).key (family n).laws.itself (family n).laws.one_key (look n) wanted owner owns whole (with_row (described n))
+      (λ r u. (family n).there (λ k. if is_at n k r then Some r else look n u k) u) (puts c n) dropped old new sets known)
 
   pub changed_known : (old new : RowMap Q (Row n))
       → (mid : RowMap Q (Row n)) × ChangesBy cmp (λ r. key_of (owner r)) (without_listed (are_same n)) (drops c n) old mid × ChangesBy cmp (λ r. key_of (owner r)) (with_put (are_same n)) (puts c n) mid new
@@ -62,26 +69,30 @@ module _ (c : Change) (row : RepeatRow) (t : Tables) where
   by_name = known_as (slice_cmp nat_cmp) reverse same_text names_told same_staged staged_key staged_laws.itself staged_laws.one_key staged_at (λ o k. same_text o k.0) (λ r. r.order) (λ by r. refl)
 
   -- and by the order
-  stage_forgotten : (stage : Option (List ℕ)) → c.dropped.stage ≡ stage → (old new : RowMap (List ℕ) StagedRow) → StageForgotten stage old new → KnowsStagedFor t old → KnowsStagedFor emptied_left new
-  stage_forgotten None is old new same known by = by_name t emptied_left (sym (none_emptied is)) new (subst (KnowsStagedFor t) (sym same) known) by
-  stage_forgotten (Some order) is old new forgets known by = told (rows_at (slice_cmp nat_cmp) new (reverse by)) (forgets (reverse by))
+  stage_gone : (stage : Option (List ℕ)) → c.dropped.stage ≡ stage → (old new : RowMap (List ℕ) StagedRow) → StageEmptied stage old new → KnowsStagedFor t old → KnowsStagedFor emptied_left new
+  stage_gone None is old new same known by = by_name t emptied_left (sym (none_emptied is)) new (subst (KnowsStagedFor t) (sym same) known) by
+  stage_gone (Some order) is old new changes known by = told (rows_at (slice_cmp nat_cmp) new (reverse by)) (changes (reverse by))
     where
-      told : (x : Option (List StagedRow)) → IfSome x (λ found. (rows_at (slice_cmp nat_cmp) old (reverse by) ≡ Some found) × (is_eq (slice_cmp nat_cmp (reverse order) (reverse by)) ≡ false)) → IfSome x (AreStagedOfOrder by emptied_left)
+      told : (x : Option (List StagedRow)) → IfSome x (λ found. (before : List StagedRow) × (rows_at (slice_cmp nat_cmp) old (reverse by) ≡ Some before) × (found ≡ (if is_eq (slice_cmp nat_cmp (reverse order) (reverse by)) then [] else before))) → IfSome x (AreStagedOfOrder by emptied_left)
       told None h = tt
       told (Some rows) h =
-          let were : AreStagedOfOrder by t rows = subst (λ (y : Option (List StagedRow)). IfSome y (AreStagedOfOrder by t)) h.0 (known by) in
-          others_stay order t emptied_left (one_emptied order is) by (sym (names_told by order) ∙ h.1) rows were
+          let were : AreStagedOfOrder by t h.0 = subst (λ (y : Option (List StagedRow)). IfSome y (AreStagedOfOrder by t)) h.1 (known by) in
+          subst (AreStagedOfOrder by emptied_left) (sym (h.2 ∙ ap (λ b. if b then [] else h.0) (names_told by order))) (rows_left order t emptied_left (one_emptied order is) by h.0 were)
 
   staged_for_followed : (old new : RowMap (List ℕ) StagedRow) → StagedForFollows c.put c.dropped old new → KnowsStagedFor t old → KnowsStagedFor left new
-  staged_for_followed old new (first, mid, forgets, drops, puts) known =
+  staged_for_followed old new (first, mid, empties, drops, puts) known =
       changed_known (slice_cmp nat_cmp) reverse same_text names_told Staged (λ o k. same_text o k.0) (λ r. r.order) (λ by r. refl) c t left (table_left c t Staged) first new (mid, drops, puts)
-      (stage_forgotten c.dropped.stage refl old first forgets known)
+      (stage_gone c.dropped.stage refl old first empties known)
+
+  -- two that have the name of an order have the same
+  order_alone : (by : List ℕ) (r : OrderRow) → same_text by r.order ≡ true → (k : List ℕ) → same_text by k ≡ true → same_text k r.order ≡ true
+  order_alone by r own k w = subst (λ (b : List ℕ). same_text b r.order ≡ true) ((family Orders).laws.one_key by k w) own
 
   pub followed_written : (old new : Followed) → Follows c old new → KnowsFollowed t old → KnowsFollowed left new
   followed_written old new follows known = record {
     lots = put_known lot_key_cmp turned_lot same_lot lots_told Lots same_lot (λ r. r.lot) (λ by r. refl) c t left (table_left c t Lots) old.lots.rows new.lots.rows follows.lots known.lots;
     lots_of = put_known (slice_cmp nat_cmp) reverse same_text names_told Lots (λ g k. same_text g k.gtin) (λ r. r.lot.gtin) (λ by r. refl) c t left (table_left c t Lots) old.lots_of.rows new.lots_of.rows follows.lots_of known.lots_of;
-    orders = put_known (slice_cmp nat_cmp) reverse same_text names_told Orders same_text (λ r. r.order) (λ by r. refl) c t left (table_left c t Orders) old.orders.rows new.orders.rows follows.orders known.orders;
+    orders = set_known (slice_cmp nat_cmp) reverse same_text names_told Orders same_text (λ r. r.order) (λ by r. refl) c t left (table_left c t Orders) order_alone old.orders.rows new.orders.rows follows.orders known.orders;
     urgents = put_known (slice_cmp nat_cmp) reverse same_text names_told Urgents same_text (λ r. r.order) (λ by r. refl) c t left (table_left c t Urgents) old.urgents.rows new.urgents.rows follows.urgents known.urgents;
     lines = put_known (slice_cmp nat_cmp) reverse same_text names_told Lines (λ o k. same_text o k.0) (λ r. r.order) (λ by r. refl) c t left (table_left c t Lines) old.lines.rows new.lines.rows follows.lines known.lines;
     lines_at = put_known line_key_cmp turned_line same_line lines_told Lines same_line (λ r. (r.order, r.gtin)) (λ by r. refl) c t left (table_left c t Lines) old.lines_at.rows new.lines_at.rows follows.lines_at known.lines_at;

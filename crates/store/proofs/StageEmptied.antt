@@ -53,7 +53,7 @@ module _ (order : List ℕ) (t : Tables) where
         ]
 
   -- what is staged for another order stays
-  pub others_stay : (u : Tables) → staged_at u ≡ without_order order t → (by : List ℕ) → same_text by order ≡ false → (rows : List StagedRow) → AreStagedOfOrder by t rows → AreStagedOfOrder by u rows
+  others_stay : (u : Tables) → staged_at u ≡ without_order order t → (by : List ℕ) → same_text by order ≡ false → (rows : List StagedRow) → AreStagedOfOrder by t rows → AreStagedOfOrder by u rows
   others_stay u is by apart rows are =
       let stays = λ (k : StagedKey) (w : bytes_eq by k.0 ≡ true). false_from (bytes_eq order k.0) (λ e. clash (same_text by order) (subst (λ (x : List ℕ). same_text by x ≡ true) (sym (names_exact order k.0 e)) w) apart) in
       subst (λ (f : StagedKey → Option StagedRow). AreRows {K = StagedKey} same_staged staged_key (λ k. bytes_eq by k.0) f rows) (sym is) (record {
@@ -61,3 +61,16 @@ module _ (order : List ℕ) (t : Tables) where
         only = are.only;
         once = are.once;
       })
+
+  -- and for the order nothing is left
+  none_stays : (u : Tables) → staged_at u ≡ without_order order t → (by : List ℕ) → same_text by order ≡ true → AreStagedOfOrder by u []
+  none_stays u is by own =
+      subst (λ (f : StagedKey → Option StagedRow). AreRows {K = StagedKey} same_staged staged_key (λ k. bytes_eq by k.0) f []) (sym is) (record {
+        found = λ k w. sym (ap (λ b. if b then None else staged_at t k) (subst (λ (x : List ℕ). bytes_eq x k.0 ≡ true) (names_exact by order own) w));
+        only = refl;
+        once = refl;
+      })
+
+  -- what is left of the rows of an order
+  pub rows_left : (u : Tables) → staged_at u ≡ without_order order t → (by : List ℕ) (rows : List StagedRow) → AreStagedOfOrder by t rows → AreStagedOfOrder by u (if same_text by order then [] else rows)
+  rows_left u is by rows are = elim (same_text by order) as (λ b. same_text by order ≡ b → AreStagedOfOrder by u (if b then [] else rows)) [ true ↦ λ own. none_stays u is by own | false ↦ λ apart. others_stay u is by apart rows are ] refl

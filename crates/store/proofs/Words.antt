@@ -105,7 +105,7 @@ pub use Rattle.rules.specs.Slices.{IsDecision, tables_but_repeats}
 unfoldable pub use Rattle.rules.specs.Slices.{applied}
 pub use Rattle.rules.proofs.rows.LotUnits.{lot_within_limit, bin_within_limit}
 pub use Rattle.overviews.specs.Shown.{bin_shown, expiring_shown, item_names_shown, open_orders_shown, books_shown}
-pub use Rattle.rows_in_memory.specs.KnownRows.{RowMap, rows_at, ChangesBy, Remembers, with_put, without_row as without_listed, ForgetsBy}
+pub use Rattle.rows_in_memory.specs.KnownRows.{RowMap, rows_at, ChangesBy, SetsBy, Remembers, with_put, without_row as without_listed, ForgetsBy}
 pub use Rattle.rows_in_memory.specs.LineOrder.{turned_line, line_key_cmp, lines_told}
 pub use Rattle.rows_in_memory.specs.LotOrder.{lot_key as turned_lot, lot_key_cmp, lots_told}
 pub use Rattle.rows_in_memory.specs.NameOrder.{names_told, names_exact}
@@ -157,7 +157,7 @@ pub use Rattle.whole_tables.proofs.Handing.{typed_are_all}
 pub use Rattle.whole_tables.proofs.Owned.{owned}
 pub use Rattle.slices.specs.Books.{IsBooksOf}
 pub use Rattle.slices.specs.Bounding.{IsAtMost, AreBounds, IsRaised}
-pub use Rattle.slices.specs.Following.{KnowsStaged, KnowsStagedFor, KnowsMeta, KnowsFollowed, StageLeft, StagedFollows, StageForgotten, StagedForFollows, Follows}
+pub use Rattle.slices.specs.Following.{KnowsStaged, KnowsStagedFor, KnowsMeta, KnowsFollowed, StageLeft, StagedFollows, StageEmptied, StagedForFollows, Follows}
 pub use Rattle.slices.specs.Reading.{IsRead}
 pub use Rattle.slices.specs.Remembering.{ForgetsPut, KnowsRows, KnowsNoRows}
 pub use Rattle.slices.specs.Slicing.{is_among, HoldsOf, HoldsBeside, Knows, is_passed, is_open_in, has_urgent_row, opens, comes, Covers, CoversUrgent}
@@ -165,7 +165,7 @@ pub use Rattle.slices.specs.declared.followed.Followed.{Followed}
 pub use Rattle.slices.specs.declared.knowing.Bounds.{Bounds}
 pub use Rattle.slices.specs.declared.knowing.Known.{Known}
 pub use Rattle.slices.specs.declared.rows_known.RowsKnown.{RowsKnown}
-pub use Rattle.slices.proofs.KnownWritten.{known_as, known_put, known_dropped}
+pub use Rattle.slices.proofs.KnownWritten.{known_as, known_put, known_set, known_dropped}
 pub use Rattle.slices.proofs.ReadSteps.{read_none, as_told, fails_first, so_told}
 pub use Rattle.slices.proofs.ReadTold.{read_fault, read_kept}
 pub use Rattle.slices.proofs.RowsChanged.{others_are, or_false, false_from, clash}

@@ -57,10 +57,9 @@ pub fn show<Q: Query, S: Alter>(
 fn take_rows(alloc: Global, known: &mut Option<Known>) -> RowsKnown
     ensures { (t : Tables) → IsKnownOf known.old t → IsKnownOf known.new t × KnowsRows t result }
 {
-    let none = RowsKnown::new(alloc);
     match known {
-        Some(known) => mem::replace(&mut known.rows, none),
-        None => none,
+        Some(known) => mem::replace(&mut known.rows, RowsKnown::new(alloc)),
+        None => RowsKnown::for_one_query(alloc),
     }
 }
 
