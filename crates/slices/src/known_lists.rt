@@ -132,7 +132,7 @@ fn know_urgents<S: Alter>(
     Ok(())
 }
 
-/// The rows of the urgent ones among these orders, which are read all at once.
+/// The rows of the urgent ones among these orders. All urgent orders are read first, at once, where that is worth it.
 pub fn urgents_among<S: Alter>(
     alloc: Global,
     tx: &mut Transaction<'_, S>,
