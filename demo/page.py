@@ -84,7 +84,7 @@ class Page(http.server.BaseHTTPRequestHandler):
             return
         kind = TYPES.get(name.rpartition(".")[2], "application/octet-stream")
         with open(os.path.join(FILES, name), "rb") as it:
-            self.give(200, it.read(), kind + "; charset=utf-8" * kind.startswith("text/"))
+            self.give(200, it.read(), kind + "; charset=utf-8" * (kind == "text/html"))
 
     def pass_on(self):
         """Hands the request to lotd, which ends each connection behind its answer. A browser takes a lot `.` or `..` out of a path, so
