@@ -38,21 +38,21 @@ is_proved() {
     for backend in '' llvm; do
         if sh build.sh made $backend; then return 0; fi
     done
+    backend=
     return 1
 }
-backend=
 
 if [ -n "${LOTD:-}" ]; then
     lotd=$LOTD
     how="LOTD names the program"
-elif [ -n "$proved" ] || is_proved; then
-    echo "> sh build.sh: prove what lotd stands on, and build lotd"
+elif is_proved || [ -n "$proved" ]; then
+    echo "> sh build.sh: prove what lotd stands on, and build lotd, where that is not done"
     sh build.sh $backend
     lotd=$PWD/crates/lotd/out/lotd
     how="lotd is proved"
 else
     echo "This demo builds lotd before any proof, with run-time checks. 'sh build.sh' proves everything and builds the program that is installed."
-    echo "> sh try.sh"
+    echo "> sh try.sh, two to six minutes the first time"
     sh try.sh
     lotd=$PWD/crates/lotd/out/lotd.tried
     how="lotd was built before any proof; sh build.sh proves everything"
