@@ -33,6 +33,11 @@ for it in python3 curl $([ -n "${LOTD:-}" ] || echo rt); do
     fi
 done
 
+if ! python3 -c "import socket; socket.create_server(('127.0.0.1', $port)).close()" 2>/dev/null; then
+    echo "demo: port $port is taken; PORT names another: PORT=18090 sh demo.sh" >&2
+    exit 1
+fi
+
 # is_proved: build.sh has proved and built this very tree; then `backend` is the word that it was given
 is_proved() {
     for backend in '' llvm; do

@@ -140,14 +140,14 @@ def fills(today):
 
 
 def main():
-    today, program, room = datetime.date.today(), None, tempfile.mkdtemp()
+    try:
+        site = Site(("127.0.0.1", PORT), Page)
+    except OSError as fault:
+        sys.exit(f"demo: port {PORT}: {fault.strerror}; PORT names another")
     for number in (signal.SIGHUP, signal.SIGINT, signal.SIGTERM):
         signal.signal(number, lambda *_: sys.exit(0))
+    today, program, room = datetime.date.today(), None, tempfile.mkdtemp()
     try:
-        try:
-            site = Site(("127.0.0.1", PORT), Page)
-        except OSError as fault:
-            sys.exit(f"demo: port {PORT}: {fault.strerror}; PORT names another")
         program = serves(room, today)
         shown = fills(today)
         own = f"http://127.0.0.1:{PORT}"
