@@ -5,17 +5,23 @@ those below, and `rt ci` proves each with one job, while processors stand idle. 
 others behind it goes first, by the seconds of build_seconds.txt, and has all processors; the next ones take what it leaves.
 Each reads what those below promise. The gate is `rt ci`, and no run of this.
 
+While it runs, a line says how many crates are proved and since when it runs: on a terminal at each moment, else as each crate
+is proved, and once a minute.
+
 Words behind the kit's folder: `llvm` has LLVM build lotd in place of Rattle's own compiler, which takes some three minutes
-more and gives a program that is somewhat faster; `seconds` writes that table anew, from what the crates took that are made.
+more and gives a program that is somewhat faster; `seconds` writes that table anew, from what the crates took that are made;
+`made` proves and builds nothing, and ends with status 0 where all of this tree is proved and built.
 """
-import concurrent.futures
 import contextlib
 import functools
 import hashlib
 import os
 import shutil
+import signal
 import subprocess
 import sys
+import tempfile
+import time
 
 KIT, *WORDS = sys.argv[1:]
 TOP = "lotd"
@@ -28,6 +34,9 @@ PROCESSORS = len(os.sched_getaffinity(0))
 AT_ONCE = int(os.environ.get("RT_JOBS") or 4)
 # The processor time of each crate's proof, with one job.
 TABLE = "build_seconds.txt"
+# How far a proof gives way to the one with most behind it. With more, a machine that has other work holds it up for good.
+NICE = 5
+BEGAN = time.monotonic()
 
 
 def text_of(path):
@@ -79,45 +88,70 @@ def is_made(crate):
     return os.path.exists(kept) and os.path.exists(made(crate)) and text_of(kept) == stamp(crate)
 
 
-def run(words, at="."):
-    """Runs a program; returns whether it ended well, what it said, and the seconds of processor time that it took."""
-    how = {"stdin": subprocess.DEVNULL, "stdout": subprocess.PIPE, "stderr": subprocess.STDOUT, "text": True}
-    with subprocess.Popen(words, cwd=at, **how) as process:
-        said = process.stdout.read()
-        _, status, used = os.wait4(process.pid, 0)
-        process.returncode = os.waitstatus_to_exitcode(status)
-    return process.returncode == 0, said, used.ru_utime + used.ru_stime
-
-
 def rlib(library):
     return f"{MADE if library in CALLS else KIT + '/rlibs'}/{library}.rlib"
 
 
-def prove(crate, rank):
-    """Proves a crate and builds it, behind so many that run and have more behind them; returns whether it is proved, and
-    what was said."""
+def words_of(crate, to, jobs):
+    """What is called to prove a crate and write it to this file."""
     is_top = crate == TOP
-    to = f"{made(crate)}.o" if is_top else made(crate)
-    # What is half written bears no stamp, not even an earlier one.
-    with contextlib.suppress(FileNotFoundError):
-        os.remove(f"{made(crate)}.stamp")
-    words = ["nice", "-n", str(5 * rank)] if rank else []
-    words += [f"{KIT}/bin/rattle", "build", "--crate-name", crate, f"src/{'main' if is_top else 'lib'}.rt"]
-    words += ["--jobs", str(max(1, PROCESSORS - rank)), "-o", to]
+    words = [f"{KIT}/bin/rattle", "build", "--crate-name", crate, f"src/{'main' if is_top else 'lib'}.rt", "--jobs", str(jobs), "-o", to]
     words += ["--antt-project", f"{KIT}/rattle/logic/antt-project.json", "--logic-built", f"{KIT}/logic_built"]
     words += ["--toolchain", f"{KIT}/toolchain", "--backend", BACKEND] if is_top else ["--statements"]
     for library in CALLS[crate]:
         words += ["--extern", f"{library}={rlib(library)}"]
-    words += ["-L", f"dependency={KIT}/rlibs", "-L", f"dependency={MADE}"]
-    is_proved, said, seconds = run(words, f"crates/{crate}")
-    if is_top and is_proved:
-        link = [f"{KIT}/bin/rattle-link", "--target", "x86_64-unknown-linux-gnu", "--toolchain", f"{KIT}/toolchain"]
-        is_proved, said, _ = run([*link, "-o", made(crate), to, f"{KIT}/c/libos_c.a", f"{KIT}/c/liblibc_c.a"])
-    if is_proved:
-        for kept, text in (("seconds", f"{seconds:.0f}"), ("stamp", stamp(crate))):
-            with open(f"{made(crate)}.{kept}", "w", encoding="utf-8") as file:
+    return [*words, "-L", f"dependency={KIT}/rlibs", "-L", f"dependency={MADE}"]
+
+
+class Proof:
+    """A crate that is being proved and built, in a process group of its own."""
+
+    def __init__(self, crate, jobs):
+        # What is half written bears no stamp, not even an earlier one.
+        with contextlib.suppress(FileNotFoundError):
+            os.remove(f"{made(crate)}.stamp")
+        self.crate, self.nice = crate, 0
+        self.to = f"{made(crate)}.o" if crate == TOP else made(crate)
+        self.log = tempfile.TemporaryFile("w+", errors="replace")
+        how = {"stdin": subprocess.DEVNULL, "stdout": self.log, "stderr": subprocess.STDOUT, "start_new_session": True}
+        self.process = subprocess.Popen(words_of(crate, self.to, jobs), cwd=f"crates/{crate}", **how)
+
+    def give_way(self, nice):
+        """Sets how far it gives way. Only root may take back what was given; for others it stays."""
+        if nice != self.nice:
+            with contextlib.suppress(PermissionError, ProcessLookupError):
+                os.setpriority(os.PRIO_PGRP, self.process.pid, nice)
+                self.nice = nice
+
+    def has_ended(self):
+        pid, status, used = os.wait4(self.process.pid, os.WNOHANG)
+        if pid:
+            self.process.returncode = os.waitstatus_to_exitcode(status)
+            self.seconds = used.ru_utime + used.ru_stime
+        return pid != 0
+
+    def end(self):
+        with contextlib.suppress(ProcessLookupError):
+            os.killpg(self.process.pid, signal.SIGKILL)
+        self.process.wait()
+
+    def is_proved(self):
+        """Of one that has ended, whether it is proved and built. Then it bears its stamp."""
+        if self.process.returncode != 0 or self.crate == TOP and not self.is_linked():
+            return False
+        for kept, text in (("seconds", f"{self.seconds:.0f}"), ("stamp", stamp(self.crate))):
+            with open(f"{made(self.crate)}.{kept}", "w", encoding="utf-8") as file:
                 file.write(text)
-    return is_proved, said
+        return True
+
+    def is_linked(self):
+        link = [f"{KIT}/bin/rattle-link", "--target", "x86_64-unknown-linux-gnu", "--toolchain", f"{KIT}/toolchain"]
+        link += ["-o", made(self.crate), self.to, f"{KIT}/c/libos_c.a", f"{KIT}/c/liblibc_c.a"]
+        return subprocess.run(link, stdin=subprocess.DEVNULL, stdout=self.log, stderr=subprocess.STDOUT).returncode == 0
+
+    def last_lines(self):
+        self.log.seek(0)
+        return "".join(self.log.readlines()[-40:])[-6000:].rstrip()
 
 
 def write_seconds():
@@ -136,26 +170,71 @@ def behind(crate):
     return int(SECONDS.get(crate, 30)) + max((behind(it) for it in CRATES if crate in CALLS[it]), default=0)
 
 
+def span():
+    """The time since the beginning."""
+    seconds = int(time.monotonic() - BEGAN)
+    return f"{seconds // 60} min" if seconds >= 60 else f"{seconds} s"
+
+
+class Progress:
+    """What is told while crates are proved."""
+    IS_TERMINAL = sys.stdout.isatty()
+
+    def __init__(self, proved):
+        self.proved, self.told = proved, BEGAN
+
+    def line(self, words, ends="\n"):
+        print(f"{chr(13) + chr(27) + '[K' if self.IS_TERMINAL else ''}  {self.proved} of {len(CRATES)} crates, {span()}{words}", end=ends, flush=True)
+        self.told = time.monotonic()
+
+    def proves(self, crate):
+        self.proved += 1
+        self.line(f": {crate}")
+
+    def goes_on(self, running):
+        if time.monotonic() - self.told > (1 if self.IS_TERMINAL else 60):
+            self.line(f"; now {' '.join(proof.crate for proof in running)}", "" if self.IS_TERMINAL else "\n")
+
+
+def begin(left, running):
+    """Begins what can be begun. Most behind it has the first of those that run: it has a job for each processor. Each of the
+    others has one less than the one before it, and gives way."""
+    waited = {*left, *(proof.crate for proof in running)}
+    for crate in [it for it in left if waited.isdisjoint(below(it))][: AT_ONCE - len(running)]:
+        rank = sum(behind(proof.crate) > behind(crate) for proof in running)
+        running.append(Proof(crate, max(1, PROCESSORS - rank)))
+        left.remove(crate)
+    for proof in running:
+        proof.give_way(NICE if any(behind(it.crate) > behind(proof.crate) for it in running) else 0)
+
+
 def prove_all(left):
-    """Proves these crates side by side, each after those that it stands on, those with most behind them first. The first
-    of those that run has a job for each processor; each of the others has one less than the one before it, and gives way."""
-    left, running = sorted(left, key=behind, reverse=True), {}
-    with concurrent.futures.ThreadPoolExecutor(AT_ONCE) as pool:
+    """Proves these crates side by side, each after those that it stands on, those with most behind them first. The first that
+    is not proved is told with its last lines, and ends the others."""
+    progress, running, left = Progress(len(CRATES) - len(left)), [], sorted(left, key=behind, reverse=True)
+    try:
         while left or running:
-            waited = {*left, *running.values()}
-            for crate in [it for it in left if waited.isdisjoint(below(it))][: AT_ONCE - len(running)]:
-                rank = sum(behind(it) > behind(crate) for it in running.values())
-                running[pool.submit(prove, crate, rank)] = crate
-                left.remove(crate)
-            for done in concurrent.futures.wait(running, return_when=concurrent.futures.FIRST_COMPLETED).done:
-                crate, (is_proved, said) = running.pop(done), done.result()
-                if not is_proved:
-                    print(f"{said[-6000:]}\n{crate} is not proved", file=sys.stderr)
+            begin(left, running)
+            time.sleep(0.1)
+            progress.goes_on(running)
+            for proof in [it for it in running if it.has_ended()]:
+                running.remove(proof)
+                if not proof.is_proved():
+                    progress.line(f": {proof.crate} is not proved")
+                    print(f"{proof.last_lines()}\nbuild: {proof.crate} is not proved; these were its last lines", file=sys.stderr)
                     return False
-                print(f"  {crate}", flush=True)
+                progress.proves(proof.crate)
+    finally:
+        for proof in running:
+            proof.end()
     return True
 
 
+if "made" in WORDS:
+    sys.exit(0 if all(map(is_made, CRATES)) else 1)
+# So that what it began ends with it.
+for number in (signal.SIGHUP, signal.SIGINT, signal.SIGTERM):
+    signal.signal(number, lambda it, _: sys.exit(128 + it))
 os.makedirs(MADE, exist_ok=True)
 if not prove_all([it for it in CRATES if not is_made(it)]):
     sys.exit(1)

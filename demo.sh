@@ -3,16 +3,70 @@
 # their label, takes an order, shows what is reserved for it, the item's stock, the pick list and the shortages,
 # picks, ships, recalls, prints the recall notice, takes in a goods-in file, takes an urgent order, and does all acts again.
 # Then the server is ended by kill -9, its books are deleted, and the file of the acts makes them again.
-# Needs the Rattle kit, python3 and curl.
+#
+# sh demo.sh          builds lotd before any proof (try.sh), or takes the proved program where this very tree has been proved
+# sh demo.sh proved   proves lotd first, by build.sh
+# sh demo.sh page     then has a house to look at in the browser, until Ctrl-C (demo/page.py)
+#
+# LOTD names another program, PORT another port. Needs the Rattle kit, python3 and curl.
 # Exit status 0 only if every answer was the expected one.
 set -eu
 cd "$(dirname "$0")"
 
 port=${PORT:-18080}
+proved='' page=''
+for word in "$@"; do
+    case $word in
+    proved) proved=yes ;;
+    page) page=yes ;;
+    *)
+        echo "demo: there is no '$word': sh demo.sh [proved] [page]" >&2
+        exit 2
+        ;;
+    esac
+done
+
+for it in python3 curl $([ -n "${LOTD:-}" ] || echo rt); do
+    if ! command -v "$it" >/dev/null; then
+        echo "demo: there is no $it (rt is the Rattle kit's, in its folder bin)" >&2
+        exit 1
+    fi
+done
+
+if ! python3 -c "import socket; socket.create_server(('127.0.0.1', $port)).close()" 2>/dev/null; then
+    echo "demo: port $port is taken; PORT names another: PORT=18090 sh demo.sh" >&2
+    exit 1
+fi
+
+# is_proved: build.sh has proved and built this very tree; then `backend` is the word that it was given
+is_proved() {
+    for backend in '' llvm; do
+        if sh build.sh made $backend; then return 0; fi
+    done
+    backend=
+    return 1
+}
+
+if [ -n "${LOTD:-}" ]; then
+    lotd=$LOTD
+    how="LOTD names the program"
+elif is_proved || [ -n "$proved" ]; then
+    echo "> sh build.sh: prove what lotd stands on, and build lotd, where that is not done"
+    sh build.sh $backend
+    lotd=$PWD/crates/lotd/out/lotd
+    how="lotd is proved"
+else
+    echo "This demo builds lotd before any proof, with run-time checks. 'sh build.sh' proves everything and builds the program that is installed."
+    echo "> sh try.sh, two to six minutes the first time"
+    sh try.sh
+    lotd=$PWD/crates/lotd/out/lotd.tried
+    how="lotd was built before any proof; sh build.sh proves everything"
+fi
+if [ -n "$page" ]; then exec python3 demo/page.py "$lotd" "$port"; fi
+
 room=$(mktemp -d)
 db=$room/stock.db
 acts=$room/stock.acts
-lotd=$PWD/crates/lotd/out/lotd
 server=
 
 end() {
@@ -20,6 +74,7 @@ end() {
     rm -rf "$room"
 }
 trap end EXIT
+trap 'exit 1' HUP INT TERM
 
 # expect WHAT EXPECTED GOT
 expect() {
@@ -74,9 +129,6 @@ serve() {
     done
     expect "the server" "listening on 127.0.0.1:$port" "$(cat "$room/out")"
 }
-
-echo "> prove what lotd stands on, and build lotd"
-sh build.sh
 
 label=']C101095060001343521726093010AB12'
 echo "> lotd label --day 2026-05-04 '$label'"
@@ -186,4 +238,4 @@ wait "$server"
 server=
 echo "> lotd audit --db stock.db"
 expect "the audit" "audited 12 acts from 2026-05-04" "$("$lotd" audit --db "$db")"
-echo "demo: every answer was the expected one"
+echo "demo: every answer was the expected one; $how"

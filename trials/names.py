@@ -32,7 +32,7 @@ EXCEPTIONS = {
 # Paths of the host, of the proxy, and of what an installation makes.
 ELSEWHERE = ("/etc/", "/usr/", "/var/", "/mnt/", "/root/", "/dev/", "/tmp/", "/state/", "/page/", "/dots/", "/PATH")
 # Files that the program, the kit or the service makes or is given.
-MADE = {"crates/NAME", "crates/lotd/out/lotd", "examples/nginx-lotd.conf", "examples/nginx.conf", "lotd.crt", "ops/out",
+MADE = {"crates/NAME", "crates/lotd/out/lotd", "crates/lotd/out/lotd.tried", "examples/nginx-lotd.conf", "examples/nginx.conf", "lotd.crt", "ops/out",
         "proofs/FILE/FUNCTION/Answers.antt", "proofs/FILE/FUNCTION/Invariants.antt", "proofs/NAME.antt",
         "specs/DecidedX.antt", "stock.acts-wal", "stock.db", "stock.db-wal", "stock.example"}
 # What a document says otherwise than as a name of the tree, whole.

@@ -1,9 +1,10 @@
 """The page of `ops/page` in a real browser, behind the proxy of `ops/nginx-lotd.conf` with its ports and files elsewhere: the way of
 a lot from goods in to the recall notice, by scanned labels; answers that are lost, a server that is killed, 503, a page of
 another server, a server that is silent, a closed and a killed browser, no network, two windows: each act stands once; what is
-refused, in words, for every code of the documents; lots and names with marks; requests of other origins; small and large.
+refused, in words, for every code of the documents; lots and names with marks; requests of other origins; small and large; and the
+house of `sh demo.sh page`.
 Needs the Rattle kit and Debian's nginx, openssl, chromium, chromium-driver and python3-selenium, and takes three minutes.
-It has four ports from PORT on. SHOTS names a folder for pictures of the screens.
+It has five ports from PORT on. SHOTS names a folder for pictures of the screens.
 Exit status 0 only if all was as expected, and 3 where nginx, the browser or selenium is not there.
 """
 import json
@@ -15,6 +16,7 @@ import time
 
 import browser
 import nginx
+import page_demo
 import page_lists
 import page_looks
 import server
@@ -29,7 +31,7 @@ from server import TOP
 def has_all_words():
     """Every code that the documents name has words in the page, and the page has no other."""
     wanted = {"P01"}
-    for name in ("README.md", "docs/LABELS.md", "docs/FILES.md"):
+    for name in ("docs/WIRE.md", "docs/LABELS.md", "docs/FILES.md"):
         with open(os.path.join(TOP, name), encoding="utf-8") as file:
             cells = [cell.strip() for line in file if line.startswith("|") for cell in line.split("|")]
         for cell in cells:
@@ -521,7 +523,8 @@ STEPS = [has_all_words, page_looks.signs_on, makes_items_and_bins, takes_goods_i
          page_looks.opens_by_scans, page_looks.gives_an_order_back, page_looks.shows_the_state, page_lists.at_home,
          page_lists.shows_open_orders, page_lists.shows_a_bin, page_lists.shows_what_expires, page_lists.finds_by_name, acts_once, shows_again, outlasts_a_password,
          goes_on_offline, is_shut, is_shut_to_other_sites, bars_names, page_looks.shows_home, page_looks.fits_all_screens, counts_and_writes_off,
-         page_looks.gives_back, opens_the_day, page_lists.counts_from_the_business_day, has_all_words, outlasts_a_dead_battery]
+         page_looks.gives_back, opens_the_day, page_lists.counts_from_the_business_day, has_all_words, outlasts_a_dead_battery,
+         page_demo.walks_the_demo]
 
 subprocess.run([lotd, "init", "--db", DB, "--day", DAY], check=True)
 started = None
