@@ -39,7 +39,7 @@ stood f before x [] = refl
 stood f before x (y ∷ ys) =
     elim (before y x) as (λ b. total f (if b then y ∷ placed before x ys else x ∷ y ∷ ys) ≡ f x + total f (y ∷ ys)) [ true ↦ omega (arith, stood f before x ys) | false ↦ refl ]
 
-ordered : {X : Type 0} (f : X → ℕ) (before : X → X → Bool) (xs : List X) → total f (in_order before xs) ≡ total f xs
+pub ordered : {X : Type 0} (f : X → ℕ) (before : X → X → Bool) (xs : List X) → total f (in_order before xs) ≡ total f xs
 ordered f before [] = refl
 ordered f before (x ∷ xs) = omega (arith, stood f before x (in_order before xs), ordered f before xs)
 
@@ -72,7 +72,7 @@ module _ (first : ℤ) (acts : List Act) (l : LotId) where
       ordered (λ (u : BinUnits). u.qty) (λ (a b : BinUnits). text_before a.bin b.bin) (filter has_bin_units made)
       ∙ with_units (λ (u : BinUnits). u.qty) (λ (b : NewBin). record { bin = b.bin; qty = in_bin first acts b.bin l }) (bins acts)
 
-  staged : total (λ (u : StagedUnits). u.qty) (stages_of_lot first acts l) ≡ on_stages first acts l
+  pub staged : total (λ (u : StagedUnits). u.qty) (stages_of_lot first acts l) ≡ on_stages first acts l
   staged =
       ordered (λ (u : StagedUnits). u.qty) (λ (a b : StagedUnits). text_before a.order b.order) (filter has_staged_units (map (staged_units first acts l) (orders acts)))
       ∙ with_units (λ (u : StagedUnits). u.qty) (staged_units first acts l) (orders acts)
