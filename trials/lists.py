@@ -1,5 +1,5 @@
 """Random days' work, and after each tenth act each list (the books, the open orders, the items, the lots that expire, the
-lots in a bin), page by page and behind entries of all kinds, against a plain reckoning over the lines of `lotd history`. ACTS
+lots in a bin), page by page and behind entries of all kinds, and the traces of lots, against a plain reckoning over the lines of `lotd history`. ACTS
 says how many acts (3,000), SEED from where the work is drawn. Needs the Rattle kit, and takes some minutes.
 Exit status 0 only if every answer was, byte for byte, what is reckoned here.
 """
@@ -31,9 +31,11 @@ class Books:
         self.lots, self.held, self.recalled = {}, set(), set()
         self.stock, self.staged, self.shipped = collections.Counter(), collections.Counter(), collections.Counter()
         self.orders, self.cancelled = {}, set()
+        self.came, self.on, self.off = collections.defaultdict(list), collections.Counter(), collections.Counter()
+        self.shipments, self.in_shipment = [], collections.Counter()
 
     def do(self, line):
-        number, _, _, word, *values = line.split("\t")
+        number, self.day, self.key, word, *values = line.split("\t")
         self.acts = int(number)
         getattr(self, "do_" + word.lower())(*values)
 
@@ -48,16 +50,23 @@ class Books:
     def do_receive(self, gtin, lot, expiry, name, qty):
         self.lots.setdefault((gtin, lot), (acts.day_number(expiry), self.acts))
         self.stock[gtin, lot, name] += int(qty)
+        _, delivery, row = self.key.split("/")
+        self.came[gtin, lot].append({"act": self.acts, "day": self.day, "delivery": delivery, "line": int(row), "qty": int(qty)})
 
     def do_move(self, gtin, lot, source, target, qty):
         self.stock[gtin, lot, source] -= int(qty)
         self.stock[gtin, lot, target] += int(qty)
 
     def do_count(self, gtin, lot, name, qty):
+        self.write((gtin, lot), int(qty) - self.stock[gtin, lot, name])
         self.stock[gtin, lot, name] = int(qty)
 
     def do_adjust(self, gtin, lot, name, change):
+        self.write((gtin, lot), int(change))
         self.stock[gtin, lot, name] += int(change)
+
+    def write(self, lot, change):
+        (self.on if change > 0 else self.off)[lot] += abs(change)
 
     def do_order(self, name, customer, *lines, urgent=False):
         wanted = {gtin: int(qty) for gtin, qty in zip(lines[::2], lines[1::2])}
@@ -78,7 +87,9 @@ class Books:
         self.stock[gtin, lot, name] += int(qty)
 
     def do_ship(self, order):
+        self.shipments.append({"customer": self.orders[order]["customer"], "day": self.day, "number": len(self.shipments) + 1, "order": order})
         for key in [key for key in self.staged if key[0] == order]:
+            self.in_shipment[len(self.shipments), key[1:]] += self.staged[key]
             self.shipped[order, key[1]] += self.staged.pop(key)
 
     def do_hold(self, gtin, lot):
@@ -182,6 +193,16 @@ class Books:
                     "reserved": sum(qty for key, qty in reserved.items() if key[1] == lot), "staged": staged, "status": self.status(lot)}))
         return found
 
+    def trace(self, lot):
+        bins = {key[2]: qty for key, qty in self.stock.items() if key[:2] == lot and qty}
+        staged = {key[0]: qty for key, qty in self.staged.items() if key[1:] == lot and qty}
+        return {"act": self.acts, "bins": [{"bin": name, "qty": bins[name]} for name in sorted(bins)], "deliveries": self.came[lot],
+                "expiry": acts.day_text(self.lots[lot][0]), "gtin": lot[0], "lot": lot[1], "name": self.items[lot[0]],
+                "off": self.off[lot], "on": self.on[lot], "received": sum(row["qty"] for row in self.came[lot]),
+                "shipments": [{**row, "qty": self.in_shipment[row["number"], lot]} for row in self.shipments if self.in_shipment[row["number"], lot]],
+                "staged": [{"customer": self.orders[name]["customer"], "order": name, "qty": staged[name]} for name in sorted(staged)],
+                "status": self.status(lot)}
+
     def by_item(self, lot):
         """The place of a lot among all, as they stand in a bin."""
         return lot[0], self.lots[lot]
@@ -256,6 +277,8 @@ def all_lists(clerk, db):
     are_told(clerk, path, "lots", books.acts, expiring, PAGE, of_lot)
     lot = chance.choice([lot for lot in books.lots if lot[1] not in (".", "..")])
     behind(clerk, "%s/%s/%s" % (path, lot[0], quoted(lot[1])), "lots", books.acts, expiring, PAGE, books.lots[lot])
+    for lot in chance.sample([lot for lot in books.lots if lot[1] not in (".", "..")], 1) + [lot]:
+        is_told(clerk, "/traces/%s/%s" % (lot[0], quoted(lot[1])), books.trace(lot))
     name = chance.choice(list(books.kinds))
     path, found, beside = "/bins/" + quoted(name), books.in_bin(name), {"bin": name, "kind": books.kinds[name]}
     are_told(clerk, path, "lots", books.acts, found, PAGE, of_lot, **beside)

@@ -27,7 +27,7 @@ module _ (first : ℤ) (acts : List Act) (l : LotId) (history : IsHistory first 
   each_tells (c ∷ cs) [] are told small = absurd are
 
   -- each line of the card that is of a shipment tells of the shipment beside it
-  all_tell : AllTell t (shipment_cards first acts l) (shipments_of_lot first acts l)
+  pub all_tell : AllTell t (shipment_cards first acts l) (shipments_of_lot first acts l)
   all_tell =
       each_tells (shipment_cards first acts l) (shipments_of_lot first acts l) (subst (AreLines (shipment_cards first acts l)) (sym (mapped (reverse (shipments first acts)))) (cards_told first l acts history))
       (units_all_told first acts l history) (numbers_small first acts l history)
@@ -40,7 +40,7 @@ module _ (first : ℤ) (acts : List Act) (l : LotId) (history : IsHistory first 
 
   -- The bins
 
-  bins : (stock : List StockRow) → AreStockOfLot l t stock → bins_of_lot first acts l ≡ bins_seen stock l
+  pub bins : (stock : List StockRow) → AreStockOfLot l t stock → bins_of_lot first acts l ≡ bins_seen stock l
   unfolding tables_of
   bins stock are =
       all_bins_shown first acts history l (λ k. is_lot l k.0) stock

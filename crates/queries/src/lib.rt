@@ -19,6 +19,8 @@ mod shown_open;
 mod shown_orders;
 mod shown_shorts;
 mod shown_stock;
+mod shown_trace;
+mod traced;
 
 pub use query::Query;
 pub use shown_acts::ActsQuery;
@@ -32,3 +34,4 @@ pub use shown_open::OpenQuery;
 pub use shown_orders::OrderQuery;
 pub use shown_shorts::ShortQuery;
 pub use shown_stock::StockQuery;
+pub use shown_trace::{TraceQuery, TraceRows};

@@ -25,7 +25,7 @@ pub(crate) fn shipline_of(card: &CardRow) -> Option<ShiplineRow>
 }
 
 // The number that is printed so, if one is.
-fn number_of(text: &[u8]) -> Option<u64>
+pub(crate) fn number_of(text: &[u8]) -> Option<u64>
     ensures { (n : ℕ) → n < 2 ^ 64 → text.now ≡ decimal n → result ≡ Some n }
 {
     match str::from_utf8(text) {

@@ -1,5 +1,6 @@
 -- Readings of some texts.
 use Rattle.requests.proofs.Words.{◌≡◌, codes, refl, [], ◌∷◌, Some, None, Ok, Err, option_map, negsuc, read, table, route_of, length_value, body_length, read_ask, second_segment, third_segment, inner_segment, fourth_segment, query_of, whole_at, delta_at, body_of, Plain, Item, Count, Least, Urgent, Length, Path, Field, TooLarge, Method as OtherMethod, Get, Post, PostTo, GetOf, Items, Bins, Receipts, Counts, Orders, Recalls, Days, Leasts, Urgents, GoodsIn, AnOrder, TheStock, APickList, TheShortages, Card, ANotice, Books, OpenOrders, OpenOrdersBehind, ItemNames, ItemNamesBehind, Expiring, ExpiringBehind, Bin, BinBehind, Do, FileOf, CardOf, OpenOrdersFrom, BinFrom}
+use Rattle.requests.proofs.Words.{ATrace}
 use Rattle.serde_json.proofs.OnLiterals.{serde_json_on_literals}
 use Rattle.matchit.proofs.OnLiterals.{matchit_on_literals}
 use Rattle.percent_encoding.specs.Percent.{percent_decode}
@@ -175,6 +176,14 @@ bins_are_not_shown = refl
 pub lots_in_a_bin_are_not_posted : read_ask (codes "POST") (codes "/bins/A-01") [] ≡ Err (OtherMethod Get)
 unfolding matchit_on_literals table
 lots_in_a_bin_are_not_posted = refl
+
+pub a_trace : route_of (codes "/traces/09506000134352/L2") ≡ Some (GetOf ATrace)
+unfolding matchit_on_literals table
+a_trace = refl
+
+pub a_trace_of_no_lot : route_of (codes "/traces/09506000134352") ≡ None
+unfolding matchit_on_literals table
+a_trace_of_no_lot = refl
 
 pub open_orders_are_not_posted : read_ask (codes "POST") (codes "/openorders") [] ≡ Err (OtherMethod Get)
 unfolding matchit_on_literals table

@@ -27,6 +27,8 @@ pub enum Query {
     Card(LotId),
     /// The recall notice of a lot.
     Notice(LotId),
+    /// The trace of a lot.
+    Trace(LotId),
 }
 
 /// What a request asks.

@@ -49,6 +49,7 @@ pub enum Shown {
     Shortages,
     Card,
     Notice,
+    Trace,
 }
 
 /// A route, with the one method that it has.
@@ -96,6 +97,7 @@ pub static ROUTES: &[(&str, Route)] = &[
     ),
     ("/bins/{bin}", Route::Get(Shown::Bin)),
     ("/bins/{bin}/{gtin}/{lot}", Route::Get(Shown::BinBehind)),
+    ("/traces/{gtin}/{lot}", Route::Get(Shown::Trace)),
 ];
 
 // Adds a route. Nothing is added where there is no memory, or where it conflicts with another.

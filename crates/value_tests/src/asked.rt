@@ -58,6 +58,10 @@ GET /bins/A-01/09506000134353/L2 HTTP/1.1|| => W04
 GET /bins HTTP/1.1|| => W07
 POST /bins/A-01 HTTP/1.1|| => W07
 GET /stock HTTP/1.1|| => W06
+GET /traces/09506000134352/A%2FB HTTP/1.1|| => trace 09506000134352 A/B
+GET /traces/09506000134352 HTTP/1.1|| => W06
+GET /traces/09506000134353/L2 HTTP/1.1|| => W04
+POST /traces/09506000134352/L2 HTTP/1.1|| => W07
 GET /stock/09506000134353 HTTP/1.1|| => W04
 GET /stock/%zz HTTP/1.1|| => W04
 POST /stock/09506000134352 HTTP/1.1|| => W07
@@ -176,6 +180,7 @@ fn push_query(rt: &impl Abort, text: &mut Vec<u8>, query: &Query) {
         Query::Shortages(gtin) => ("shortages ", gtin.as_bytes(), None),
         Query::Card(lot) => ("card ", lot.gtin.as_bytes(), Some(lot.lot)),
         Query::Notice(lot) => ("notice ", lot.gtin.as_bytes(), Some(lot.lot)),
+        Query::Trace(lot) => ("trace ", lot.gtin.as_bytes(), Some(lot.lot)),
     };
     push(rt, text, name.as_bytes());
     push(rt, text, first);

@@ -2,6 +2,7 @@ pub mod Answers
 pub mod Shorts
 pub mod Views
 pub mod Lists
+pub mod Traces
 pub mod Laws
 pub mod ShortAnswers
 pub mod Serving

@@ -8,9 +8,10 @@ use crate::item_names::item_names_json;
 use crate::open_orders::open_orders_json;
 use crate::order::order_json;
 use crate::stock::stock_json;
+use crate::trace::trace_json;
 use commands::{Buffer, Listed, OrderView, Short, StockView};
 use http::StatusCode;
-use overviews::{BinView, BooksView, ExpiringView, ItemNamesView, OpenOrdersView};
+use overviews::{BinView, BooksView, ExpiringView, ItemNamesView, OpenOrdersView, TraceView};
 use requests::Method;
 use std::alloc::{AllocError, Global};
 
@@ -128,6 +129,8 @@ pub enum Answer {
     Order(OrderView),
     /// A text that is written already.
     Text(Listed<u8>),
+    /// The trace of a lot, as JSON.
+    Trace(TraceView),
 }
 
 /// The bytes of an answer to a GET, of status 200. The only error is want of memory.
@@ -164,5 +167,9 @@ pub fn write_answer(alloc: Global, answer: &Answer) -> Result<Vec<u8>, AllocErro
             with_head(alloc, b"application/json", body.as_slice())
         }
         Answer::Text(text) => with_head(alloc, b"text/plain", text.as_slice()),
+        Answer::Trace(shown) => {
+            let body = trace_json(alloc, shown)?;
+            with_head(alloc, b"application/json", body.as_slice())
+        }
     }
 }

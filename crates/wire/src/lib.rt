@@ -16,6 +16,7 @@ pub mod short;
 pub mod short_answers;
 mod stock;
 mod text;
+mod trace;
 
 pub use answer::{Answer, Block, write_answer, write_short};
 pub use serving::ServeFault;
