@@ -31,3 +31,5 @@ pub mod NamesShown
 mod ByItem
 pub mod BinPage
 mod BinShown
+mod LineItems
+mod PicksShown

@@ -129,3 +129,9 @@ pub use Rattle.views.specs.declared.open_orders.OrderUnits.{OrderUnits}
 pub use Rattle.views.specs.declared.open_orders.ServedOrder.{ServedOrder}
 pub use Rattle.views.specs.declared.order_shorts.OrderShort.{OrderShort}
 pub use Rattle.views.specs.declared.stock.LotsShown.{LotsShown}
+pub use Rattle.machine.specs.Standing.{item_in}
+pub use Rattle.machine.proofs.Tests.{not_false}
+pub use Rattle.machine.proofs.histories.Accepted.{order_accepted, urgent_accepted}
+pub use Rattle.overviews.specs.Picks.{pick_line, picks_view}
+pub use Rattle.views.specs.GivenPicks.{with_item, pick_line_found, pick_line_seen, picks_seen}
+pub use Rattle.views.specs.ShownPicks.{AreItemsOf}

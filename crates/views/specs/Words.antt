@@ -58,3 +58,5 @@ pub use Rattle.views.specs.declared.open_orders.OrderUnits.{OrderUnits}
 pub use Rattle.views.specs.declared.open_orders.ServedOrder.{ServedOrder}
 pub use Rattle.views.specs.declared.order_shorts.OrderShort.{OrderShort}
 pub use Rattle.views.specs.declared.stock.LotsShown.{LotsShown}
+pub use Rattle.overviews.specs.declared.picks.PickLine.{PickLine}
+pub use Rattle.overviews.specs.declared.picks.PicksView.{PicksView}

@@ -15,6 +15,7 @@ mod open_orders;
 mod order;
 mod order_shorts;
 mod pages;
+mod picks;
 mod stock;
 mod text_order;
 
@@ -26,4 +27,5 @@ pub use item_shorts::short_view;
 pub use open_orders::{ServedOrder, open_orders_view, open_page};
 pub use order::order_view;
 pub use pages::{front_of, page_of};
+pub use picks::picks_view;
 pub use stock::stock_view;
