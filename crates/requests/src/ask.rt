@@ -27,6 +27,10 @@ pub enum Query {
     Card(LotId),
     /// The recall notice of a lot.
     Notice(LotId),
+    /// The pick list of an order, with the names of its items.
+    Picks(Name),
+    /// The figures of the house.
+    Figures,
 }
 
 /// What a request asks.

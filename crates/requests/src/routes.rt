@@ -49,6 +49,8 @@ pub enum Shown {
     Shortages,
     Card,
     Notice,
+    Picks,
+    Figures,
 }
 
 /// A route, with the one method that it has.
@@ -96,6 +98,8 @@ pub static ROUTES: &[(&str, Route)] = &[
     ),
     ("/bins/{bin}", Route::Get(Shown::Bin)),
     ("/bins/{bin}/{gtin}/{lot}", Route::Get(Shown::BinBehind)),
+    ("/picks/{order}", Route::Get(Shown::Picks)),
+    ("/figures", Route::Get(Shown::Figures)),
 ];
 
 // Adds a route. Nothing is added where there is no memory, or where it conflicts with another.

@@ -7,3 +7,5 @@ pub mod ShortAnswers
 pub mod Serving
 pub mod Tokens
 pub mod Logging
+pub mod Picks
+pub mod Figures
