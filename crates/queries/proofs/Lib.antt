@@ -16,3 +16,4 @@ pub mod ShipmentCards
 pub mod CardRead
 pub mod ShippedTold
 pub mod NoticeRight
+mod PicksRight

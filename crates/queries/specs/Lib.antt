@@ -14,3 +14,4 @@ pub mod ShownNames
 pub mod ShownNotice
 pub mod ShownExpiring
 pub mod ShownBin
+pub mod ShownPicks

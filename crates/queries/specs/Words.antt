@@ -70,3 +70,5 @@ pub use Rattle.slices.specs.Slicing.{HoldsOf, Each, AreLeast, items_of_lots, Are
 pub use Rattle.slices.specs.declared.knowing.Known.{Known}
 pub use Rattle.slices.specs.declared.rows_known.RowsKnown.{RowsKnown}
 pub use Rattle.queries.specs.declared.shown_notice.NoticeRows.{NoticeRows}
+pub use Rattle.overviews.specs.Picks.{picks_shown, picks_view}
+pub use Rattle.overviews.specs.declared.picks.PicksView.{PicksView}

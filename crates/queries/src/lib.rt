@@ -17,6 +17,7 @@ mod shown_names;
 mod shown_notice;
 mod shown_open;
 mod shown_orders;
+mod shown_picks;
 mod shown_shorts;
 mod shown_stock;
 
@@ -30,5 +31,6 @@ pub use shown_names::ItemNamesQuery;
 pub use shown_notice::{NoticeQuery, NoticeRows};
 pub use shown_open::OpenQuery;
 pub use shown_orders::OrderQuery;
+pub use shown_picks::PicksQuery;
 pub use shown_shorts::ShortQuery;
 pub use shown_stock::StockQuery;

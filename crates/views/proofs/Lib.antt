@@ -33,3 +33,5 @@ pub mod BinPage
 mod BinShown
 mod LineItems
 mod PicksShown
+mod Counting
+mod FiguresShown

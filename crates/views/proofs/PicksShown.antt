@@ -1,5 +1,5 @@
 -- What is picked for an order by the rows of its tables is what the machine says.
-use Rattle.views.proofs.Words.{◌≡◌, ℕ, true, ◌&&◌, List, ap, sym, ◌∙◌, arith, ◌≤◌, ℤ, Some, find, map, option_map, same_text, QTY_MAX, LotId, OrderLine, ItemRow, LineRow, OrderRow, StagedRow, Act, of_item, is_stage, Placed, order_named, order_state, postings, item_postings, staged, IsHistory, tables_of, line_row, staged_row, order_row, AreRows, same_line, same_share, Rows, capped, staged_seen, same_text_refl, same_text_turned, some_one, balance-of_item, legal_history, ordered_within_limit, served_is, served_within_ordered, item_of, all_found, line_seen, lines_seen, AreShown, orders_item, pick_line, picks_view, with_item, pick_line_seen, picks_seen, AreItemsOf}
+use Rattle.views.proofs.Words.{◌≡◌, ℕ, true, ◌&&◌, List, ap, sym, ◌∙◌, arith, ◌≤◌, ℤ, Some, find, map, option_map, same_text, QTY_MAX, LotId, OrderLine, ItemRow, LineRow, OrderRow, StagedRow, Act, of_item, is_stage, Placed, order_named, order_state, postings, item_postings, staged, IsHistory, tables_of, line_row, staged_row, order_row, AreRows, same_line, same_share, Rows, capped, staged_seen, same_text_refl, same_text_turned, some_one, balance-of_item, legal_history, ordered_within_limit, served_is, served_within_ordered, item_of, all_found, line_seen, lines_seen, AreShown, orders_item, pick_line, picks_view, with_item, pick_line_seen, picks_seen, AreLineItems}
 use Rattle.views.proofs.Sorting.{IsIn, of_ordered, in_any}
 use Rattle.views.proofs.ExpiringShown.{found_of_each, item_row_is}
 use Rattle.views.proofs.LineItems.{line_has_item}
@@ -8,7 +8,7 @@ use Rattle.views.proofs.OrderShown.{one_line}
 use Rattle.views.proofs.ShortShown.{staged_total_shown}
 
 module _ (first : ℤ) (acts : List Act) (history : IsHistory first acts) (p : Placed) (named : order_named acts p.order ≡ Some p) (rows : Rows) (are : AreShown p (tables_of first acts) rows)
-    (items : List ItemRow) (items_are : AreItemsOf acts p items) where
+    (items : List ItemRow) (items_are : AreLineItems acts p items) where
   abbrev o : List ℕ
   o = p.order
 
@@ -65,7 +65,7 @@ module _ (first : ℤ) (acts : List Act) (history : IsHistory first acts) (p : P
 
 -- what the rows of an order say of its pick list is what the machine says
 pub rows_show_picks : (first : ℤ) (acts : List Act) (p : Placed) (rows : Rows) (items : List ItemRow) (row : OrderRow) → IsHistory first acts → order_named acts row.order ≡ Some p → order_row first acts row.order ≡ Some row
-    → AreShown p (tables_of first acts) rows → AreItemsOf acts p items → picks_seen rows items row ≡ picks_view first acts p
+    → AreShown p (tables_of first acts) rows → AreLineItems acts p items → picks_seen rows items row ≡ picks_view first acts p
 rows_show_picks first acts p rows items row history named table are items_are =
     let show : Placed → OrderRow = λ q. record { order = q.order; act = q.act; customer = q.customer; state = order_state first acts q.order } in
     let same : show p ≡ row = some_one (show p) row (sym (ap (option_map show) named) ∙ table) in

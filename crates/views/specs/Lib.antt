@@ -16,3 +16,5 @@ pub mod GivenBin
 pub mod ShownBin
 pub mod GivenPicks
 pub mod ShownPicks
+pub mod GivenFigures
+pub mod ShownFigures

@@ -12,7 +12,7 @@ ghost use Rattle.overviews.specs.Picks.{picks_view as picks_view_lem};
 ghost use Rattle.views.specs.GivenExpiring.{all_found};
 ghost use Rattle.views.specs.GivenPicks.{with_item as with_item_lem, pick_line_found, pick_line_seen, picks_seen};
 ghost use Rattle.views.specs.Shown.{AreShown};
-ghost use Rattle.views.specs.ShownPicks.{AreItemsOf};
+ghost use Rattle.views.specs.ShownPicks.{AreLineItems};
 
 use crate::found_rows::{FoundRows, found_rows};
 use crate::lines::lines_of_order;
@@ -124,7 +124,7 @@ pub fn picks_view(
 ) -> Result<PicksView, AllocError>
     ensures seen { IfOk result (λ view. view ≡ picks_seen rows.now items.now order.now) }
     ensures shown { (first : ℤ) (acts : List Act) (p : Placed) → IsHistory first acts → order_named acts order.now.order ≡ Some p → order_row first acts order.now.order ≡ Some order.now
-        → AreShown p (tables_of first acts) rows.now → AreItemsOf acts p items.now → IfOk result (λ view. view ≡ picks_view_lem first acts p) }
+        → AreShown p (tables_of first acts) rows.now → AreLineItems acts p items.now → IfOk result (λ view. view ≡ picks_view_lem first acts p) }
 {
     let lines = lines_of_order(alloc, rows.lines.as_slice(), &order.order)?;
     let shown = pick_lines(alloc, rows, items, order, lines.as_slice())?;
