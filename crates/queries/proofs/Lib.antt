@@ -17,3 +17,4 @@ pub mod CardRead
 pub mod ShippedTold
 pub mod NoticeRight
 mod PicksRight
+mod FiguresRight

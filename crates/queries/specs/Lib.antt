@@ -15,3 +15,4 @@ pub mod ShownNotice
 pub mod ShownExpiring
 pub mod ShownBin
 pub mod ShownPicks
+pub mod ShownFigures
