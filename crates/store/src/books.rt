@@ -40,7 +40,7 @@ use label::{BusinessDay, Day};
 use overviews::{BinView, BooksView, ExpiringView, ItemNamesView, OpenOrdersView};
 use queries::{
     ActsQuery, BinQuery, BooksQuery, CardHeadQuery, ExpiringQuery, ItemNamesQuery, OpenQuery,
-    OrderQuery, ShortQuery, StockQuery,
+    OrderQuery, Query, ShortQuery, StockQuery,
 };
 use slices::Known;
 use sqlite::{Alter, Connection};
@@ -508,6 +508,19 @@ impl<S: Alter> Books<S> {
         ensures survives { Survives (state S.Store self.old.conn) (state S.Store self.new.conn) (λ _. ⊥) }
     {
         show_notice(self.alloc, &mut self.conn, self.day, &mut self.known, lot)
+    }
+
+    /// Shows what any query asks, as it stands: the view, or the refusal. Nothing is changed; `Store` where memory or the disk
+    /// did not suffice, and `Foreign` never on books of a history.
+    pub fn show<Q: Query>(&mut self, query: &Q) -> Result<Q::View, Fault>
+        ensures clean { IsClean S.Store self.new → IsClean S.Store self.old }
+        ensures shown { IsClean S.Store self.new → (first : ℤ) (acts : List Act) → IsHistory first acts → HoldsBooks S.Store first acts self.old
+            → IsShown S.Store first acts (Q.shown first acts query.now) result self.new }
+        ensures as_before { IsClean S.Store self.new → AreAsBefore S.Store self.old self.new }
+        ensures stays { IsClean S.Store self.new → IsSettled (state S.Store self.new.conn) }
+        ensures survives { Survives (state S.Store self.old.conn) (state S.Store self.new.conn) (λ _. ⊥) }
+    {
+        show(self.alloc, &mut self.conn, self.day, &mut self.known, query)
     }
 
     /// Hands the lines of a lot's stock card to the sink, by act, one at a time, until it stops. It is outside every
