@@ -1,5 +1,5 @@
 -- What is read of the tables of a history are the rows by which the figures of the house are shown.
-use Rattle.queries.proofs.Words.{◌≡◌, List, length, refl, true, ℤ, Some, MetaRow, Act, IsHistory, tables_of, Rows, LotKey, same_lot, recall_key, is_lot_is, is_lot_refl, ReservedKey, same_reserved, reserved_key, same_share_is, same_share_refl, rows_read, AreCounted, AreFiguresOf}
+use Rattle.queries.proofs.Words.{◌≡◌, List, length, true, ℤ, MetaRow, Act, IsHistory, tables_of, Rows, LotKey, same_lot, recall_key, is_lot_is, is_lot_refl, ReservedKey, same_reserved, reserved_key, same_share_is, same_share_refl, rows_read, AreCounted, AreFiguresOf}
 use Rattle.queries.proofs.ExpiringRight.{in_house, counted}
 use Rattle.queries.proofs.OpenRight.{all_open, open_read, lines_read}
 

@@ -1,5 +1,5 @@
 -- What is read of the tables of a history are the rows by which the pick list is shown.
-use Rattle.queries.proofs.Words.{◌≡◌, ℕ, Vec, Global, true, List, [], refl, ap, ◌∙◌, Option, Some, option_map, ℤ, Ok, list_any, same_text, ItemRow, LineRow, OrderRow, ItemKey, same_item, item_key, Act, Placed, order_named, lines_placed, tables_of, order_row, Rows, same_text_is, same_text_refl, with_names, rows_as, among_names, once_names, sought, line_items, AreShown, orders_item, AreLineItems, AreOfPicks, ArePicksIn}
+use Rattle.queries.proofs.Words.{◌≡◌, ℕ, Vec, Global, true, List, [], refl, ap, ◌∙◌, Option, Some, ℤ, Ok, list_any, same_text, ItemRow, LineRow, OrderRow, ItemKey, same_item, item_key, Act, Placed, order_named, lines_placed, tables_of, Rows, same_text_is, same_text_refl, with_names, rows_as, among_names, once_names, sought, line_items, orders_item, AreLineItems, AreOfPicks, ArePicksIn}
 use Rattle.queries.proofs.OrderRight.{IsOrderRead, order_right}
 
 module _ (first : ℤ) (acts : List Act) (order : List ℕ) (p : Placed) (named : order_named acts order ≡ Some p) (rows : Rows) (items : List ItemRow) (are : AreOfPicks order (tables_of first acts) rows items) where

@@ -4,13 +4,13 @@ use Rattle.queries.specs.Words.{ℕ, ℤ, List, [], Option, Some, None, Result, 
 use Rattle.queries.specs.ShownOrders.{AreOfOrder}
 
 -- items, one after another
-abbrev pub AreItems : List (List ℕ) → Tables → List ItemRow → Type 0
-AreItems gtins t items = Each (λ g found. AreRows {K = ItemKey} same_item item_key (λ k. same_text g k) t.item found) gtins items
+abbrev pub AreItemRows : List (List ℕ) → Tables → List ItemRow → Type 0
+AreItemRows gtins t items = Each (λ g found. AreRows {K = ItemKey} same_item item_key (λ k. same_text g k) t.item found) gtins items
 
 -- the rows by which the order is shown, and the items of its lines
 pub record AreOfPicks (order : List ℕ) (t : Tables) (rows : Rows) (items : List ItemRow) : Type 0 where
   pub of_order : AreOfOrder order t rows
-  pub named : AreItems (with_names (λ (r : LineRow). r.gtin) rows.lines []) t items
+  pub named : AreItemRows (with_names (λ (r : LineRow). r.gtin) rows.lines []) t items
 
 -- the row of the order and these, or the refusal where there is none
 abbrev pub ArePicksIn : List ℕ → Tables → Result (OrderRow × (Rows × Vec ItemRow Global)) Refusal → Type 0

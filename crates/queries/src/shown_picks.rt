@@ -5,7 +5,7 @@ ghost use Rattle.sqlite.specs.Held.{state};
 ghost use Rattle.slices.specs.Reading.{IsRead};
 ghost use Rattle.slices.specs.Remembering.{Learning};
 ghost use Rattle.slices.specs.Slicing.{with_names};
-ghost use Rattle.queries.specs.ShownPicks.{AreItems, AreOfPicks};
+ghost use Rattle.queries.specs.ShownPicks.{AreItemRows, AreOfPicks};
 
 use crate::query::Query;
 use crate::reading::order_row;
@@ -30,7 +30,7 @@ fn read_line_items<S: Alter>(
     lines: &[LineRow],
 ) -> Result<Vec<ItemRow>, TableFault>
     ensures same_reference { tx.new.conn.ghost_name ≡ tx.old.conn.ghost_name }
-    ensures read { IsRead (Learning rows.old rows.new (λ t found. AreItems (with_names (λ r. r.gtin) lines.now []) t found.items)) (state S.Store tx.old.conn.now) (state S.Store tx.new.conn.now) result }
+    ensures read { IsRead (Learning rows.old rows.new (λ t found. AreItemRows (with_names (λ r. r.gtin) lines.now []) t found.items)) (state S.Store tx.old.conn.now) (state S.Store tx.new.conn.now) result }
 {
     let gtins = items_of_rows(alloc, lines)?;
     seek_items(alloc, tx, rows, gtins.as_slice())

@@ -1,4 +1,4 @@
-use Rattle.queries.proofs.Words.{List, [], subst, LineRow, AreItems, with_names, has_read, fails_first, fails_later, and_known, known_told}
+use Rattle.queries.proofs.Words.{List, [], subst, LineRow, AreItemRows, with_names, has_read, fails_first, fails_later, and_known, known_told}
 use Rattle.queries.proofs.shown_picks.read_picks_of.Goals as goal
 
 pub returns-in_err-found-clause-read : goal.returns-in_err-found-clause-read
@@ -12,5 +12,5 @@ returns-clause-read g c =
     known_told (and_known c.in_ok-found.ensures.read c.in_ok-items.ensures.read)
     (λ t h. record {
       of_order = h.0;
-      named = subst (λ (ls : List LineRow). AreItems (with_names (λ r. r.gtin) ls []) t c.in_ok-items.items.items) c.as_slice.ensures h.1;
+      named = subst (λ (ls : List LineRow). AreItemRows (with_names (λ r. r.gtin) ls []) t c.in_ok-items.items.items) c.as_slice.ensures h.1;
     })

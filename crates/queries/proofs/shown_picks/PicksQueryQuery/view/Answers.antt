@@ -1,4 +1,4 @@
-use Rattle.queries.proofs.Words.{◌∙◌, subst, UnknownOrder, order_named, tables_of, picks_view, AreLineItems}
+use Rattle.queries.proofs.Words.{UnknownOrder, order_named, picks_view}
 use Rattle.queries.proofs.KnownTold.{known_told}
 use Rattle.queries.proofs.PicksRight.{picks_right}
 use Rattle.queries.proofs.shown_picks.PicksQueryQuery.view.Goals as goal
