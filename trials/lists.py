@@ -1,6 +1,7 @@
 """Random days' work, and after each tenth act each list (the books, the open orders, the items, the lots that expire, the
-lots in a bin), page by page and behind entries of all kinds, and the traces of lots, against a plain reckoning over the lines of `lotd history`. ACTS
-says how many acts (3,000), SEED from where the work is drawn. Needs the Rattle kit, and takes some minutes.
+lots in a bin), page by page and behind entries of all kinds, the figures, the pick lists of three orders and the traces of lots,
+against a plain reckoning over the lines of `lotd history`. ACTS says how many acts (3,000), SEED from where the work is drawn.
+Needs the Rattle kit, and takes some minutes.
 Exit status 0 only if every answer was, byte for byte, what is reckoned here.
 """
 import collections
@@ -203,6 +204,40 @@ class Books:
                 "staged": [{"customer": self.orders[name]["customer"], "order": name, "qty": staged[name]} for name in sorted(staged)],
                 "status": self.status(lot)}
 
+    def bins_of(self, lot):
+        return {key[2]: qty for key, qty in self.stock.items() if key[:2] == lot and qty}
+
+    def staged_of(self, lot):
+        return sum(qty for key, qty in self.staged.items() if key[1:] == lot)
+
+    def take(self, lot, qty):
+        bins = {name: units for name, units in self.bins_of(lot).items() if self.kinds[name] == "STORE"}
+        return {"bins": [{"bin": name, "qty": bins[name]} for name in sorted(bins)], "expiry": acts.day_text(self.lots[lot][0]),
+                "lot": lot[1], "qty": qty}
+
+    def pick_line(self, name, gtin, reserved):
+        lots = [lot for lot in sorted(self.lots, key=self.lots.get) if lot[0] == gtin and reserved[name, lot]]
+        return {"gtin": gtin, "least": self.least.get(gtin, 0), "name": self.items[gtin], "ordered": self.orders[name]["lines"][gtin],
+                "shipped": self.shipped[name, gtin], "short": self.need(name, gtin) - sum(reserved[name, lot] for lot in lots),
+                "staged": self.staged_for(name, gtin), "take": [self.take(lot, reserved[name, lot]) for lot in lots]}
+
+    def picks(self, name, reserved):
+        order = self.orders[name]
+        state = "CANCELLED" if name in self.cancelled else "OPEN" if self.is_open(name) else "DONE"
+        return {"customer": order["customer"], "lines": [self.pick_line(name, gtin, reserved) for gtin in sorted(order["lines"])],
+                "order": name, "state": state}
+
+    def figures(self, reserved):
+        opened = [order for _, order in self.open_orders(reserved)]
+        status = [self.status(lot) for lot in self.lots if self.bins_of(lot) or self.staged_of(lot)]
+        in_bins = sum(self.stock.values())
+        return {"act": self.acts, "day": acts.day_text(self.today),
+                "lots": {word.lower(): status.count(word) for word in ("EXPIRED", "HELD", "RECALLED")},
+                "open": {"orders": len(opened), "short": sum(order["short"] > 0 for order in opened),
+                         "staged": sum(order["staged"] > 0 for order in opened), "urgent": sum(order["class"] == "URGENT" for order in opened)},
+                "units": {"house": in_bins + sum(self.staged.values()),
+                          "returns": sum(qty for key, qty in self.stock.items() if key[2] == "RETURNS")}}
+
     def by_item(self, lot):
         """The place of a lot among all, as they stand in a bin."""
         return lot[0], self.lots[lot]
@@ -267,6 +302,9 @@ def all_lists(clerk, db):
     if books.orders:
         name = chance.choice(list(books.orders))
         behind(clerk, "/openorders/" + name, "orders", books.acts, opened, PAGE, books.place(name))
+    is_told(clerk, "/figures", books.figures(reserved))
+    for name in chance.sample(list(books.orders), min(3, len(books.orders))):
+        is_told(clerk, "/picks/" + name, books.picks(name, reserved))
     names = books.names()
     are_told(clerk, "/itemnames", "items", books.acts, names, NAMES, lambda entry: entry["gtin"])
     gtin = chance.choice(list(books.items))

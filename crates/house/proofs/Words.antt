@@ -85,7 +85,7 @@ pub use Rattle.requests.specs.Requests.{IsReading}
 pub use Rattle.requests.specs.declared.ask.Ask.{Ask}
 pub use Rattle.requests.specs.declared.ask.Ask.TheVariants.{Do, Scan, GoodsIn, Show}
 pub use Rattle.requests.specs.declared.ask.Query.{Query}
-pub use Rattle.requests.specs.declared.ask.Query.TheVariants.{Order, Stock, PickList, Books, OpenOrders, ItemNames, Expiring, Bin, Shortages, Card, Notice}
+pub use Rattle.requests.specs.declared.ask.Query.TheVariants.{Order, Stock, PickList, Books, OpenOrders, ItemNames, Expiring, Bin, Shortages, Card, Notice, Picks, Figures}
 pub use Rattle.requests.specs.declared.fault.WireFault.{WireFault}
 pub use Rattle.requests.specs.declared.fault.WireFault.TheVariants.{Length, Head, Json, Field, Path, Method, TooLarge, Memory}
 pub use Rattle.requests.specs.declared.request.Read.{Read}
@@ -96,7 +96,7 @@ unfoldable pub use Rattle.wire.specs.Answers.{head_text}
 pub use Rattle.wire.specs.Logging.{log_line}
 pub use Rattle.wire.specs.Shorts.{code_text, code_row_text, tally_text}
 pub use Rattle.wire.specs.declared.answer.Answer.{Answer}
-pub use Rattle.wire.specs.declared.answer.Answer.TheVariants.{Text, Books as BooksAnswer, OpenOrders as OpenOrdersAnswer, ItemNames as ItemNamesAnswer, Expiring as ExpiringAnswer, Bin as BinAnswer, Order as OrderAnswer, Stock as StockAnswer}
+pub use Rattle.wire.specs.declared.answer.Answer.TheVariants.{Text, Books as BooksAnswer, OpenOrders as OpenOrdersAnswer, ItemNames as ItemNamesAnswer, Expiring as ExpiringAnswer, Bin as BinAnswer, Order as OrderAnswer, Stock as StockAnswer, Picks as PicksAnswer, Figures as FiguresAnswer}
 pub use Rattle.wire.specs.declared.serving.ServeFault.{ServeFault}
 pub use Rattle.wire.proofs.LogLines.{line_of_beginning, begun_by}
 pub use Rattle.house.specs.Answers.{short_answer, outcome_answer, not_served, is_served, act_answer, acts_with, Delivered, scan_answer, acts_scanned, receipt, acts_filed, acts_asked, acts_of, no_memory, answer_of, cause_answer, file_outcome_answer, file_fault_answer, file_answer, fault_answer, status_of, view_answer, foreign_books, label_answer, query_answer, ask_answer, cause_row_answer}
@@ -108,3 +108,7 @@ pub use Rattle.house.specs.LotTexts.{Stays, Tells, text_answer, card_from, Puts,
 pub use Rattle.house.specs.Serving.{IsWhole, HasLine, IsLogged, sent_of}
 pub use Rattle.house.specs.declared.answered.Answered.{Answered}
 pub use Rattle.house.specs.declared.answered.Answered.TheVariants.{Short, Long}
+pub use Rattle.overviews.specs.Picks.{picks_shown}
+pub use Rattle.overviews.specs.Figures.{figures_shown}
+pub use Rattle.overviews.specs.declared.picks.PicksView.{PicksView}
+pub use Rattle.overviews.specs.declared.figures.FiguresView.{FiguresView}

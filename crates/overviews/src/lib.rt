@@ -2,14 +2,18 @@
 //! acts.
 #![tactic(auto)]
 
+mod figures;
 pub mod laws;
 mod lists;
+mod picks;
 mod shipment;
 mod trace;
 
+pub use figures::{FiguresView, LotFigures, OpenFigures, UnitFigures};
 pub use lists::{
     BinLot, BinView, BooksView, ExpiringView, ItemLot, ItemNamesView, NAMES_MAX, NamedItem,
     OpenOrder, OpenOrdersView, PAGE_MAX,
 };
+pub use picks::{PickLine, PicksView};
 pub use shipment::{ShipmentLine, ShipmentView};
 pub use trace::{Delivery, StagedUnits, TraceView};

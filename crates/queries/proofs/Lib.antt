@@ -22,3 +22,5 @@ mod OrdersSorted
 mod OfItem
 mod StagesTold
 mod TraceRight
+mod PicksRight
+mod FiguresRight

@@ -157,3 +157,10 @@ pub use Rattle.queries.specs.ShownOrders.{booked_lots, reserved_lots, AreOfOrder
 pub use Rattle.queries.specs.ShownShort.{AreOrdered, AreOrderedFor, AreUrgentFor, AreOfDemands, IsShortIn}
 pub use Rattle.queries.specs.ShownStock.{AreOfItem, IsStockIn}
 pub use Rattle.queries.specs.declared.shown_notice.NoticeRows.{NoticeRows}
+pub use Rattle.overviews.specs.Picks.{picks_view}
+pub use Rattle.views.specs.ShownPicks.{AreLineItems}
+pub use Rattle.queries.specs.ShownPicks.{AreItemRows, AreOfPicks, ArePicksIn}
+pub use Rattle.tables.specs.Recalls.{recalls, recalls_laws}
+pub use Rattle.overviews.specs.Figures.{figures_shown, figures_view}
+pub use Rattle.views.specs.ShownFigures.{AreCounted}
+pub use Rattle.queries.specs.ShownFigures.{AreAllReserved, AreAllRecalls, AreOpenRows, AreFigures, AreFiguresOf}

@@ -17,3 +17,5 @@ pub mod ShownBin
 pub mod Telling
 pub mod Traced
 pub mod TraceRefused
+pub mod ShownPicks
+pub mod ShownFigures

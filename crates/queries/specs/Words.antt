@@ -71,3 +71,7 @@ pub use Rattle.slices.specs.declared.knowing.Known.{Known}
 pub use Rattle.slices.specs.declared.rows_known.RowsKnown.{RowsKnown}
 pub use Rattle.queries.specs.declared.shown_notice.NoticeRows.{NoticeRows}
 pub use Rattle.queries.specs.declared.shown_trace.TraceRows.{TraceRows}
+pub use Rattle.overviews.specs.Picks.{picks_shown, picks_view}
+pub use Rattle.overviews.specs.declared.picks.PicksView.{PicksView}
+pub use Rattle.overviews.specs.Figures.{figures_shown, figures_view}
+pub use Rattle.commands.specs.declared.rows.ReservedRow.{ReservedRow}

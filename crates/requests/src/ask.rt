@@ -29,6 +29,10 @@ pub enum Query {
     Notice(LotId),
     /// The trace of a lot.
     Trace(LotId),
+    /// The pick list of an order, with the names of its items.
+    Picks(Name),
+    /// The figures of the house.
+    Figures,
 }
 
 /// What a request asks.

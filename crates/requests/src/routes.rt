@@ -50,6 +50,8 @@ pub enum Shown {
     Card,
     Notice,
     Trace,
+    Picks,
+    Figures,
 }
 
 /// A route, with the one method that it has.
@@ -98,6 +100,8 @@ pub static ROUTES: &[(&str, Route)] = &[
     ("/bins/{bin}", Route::Get(Shown::Bin)),
     ("/bins/{bin}/{gtin}/{lot}", Route::Get(Shown::BinBehind)),
     ("/traces/{gtin}/{lot}", Route::Get(Shown::Trace)),
+    ("/picks/{order}", Route::Get(Shown::Picks)),
+    ("/figures", Route::Get(Shown::Figures)),
 ];
 
 // Adds a route. Nothing is added where there is no memory, or where it conflicts with another.

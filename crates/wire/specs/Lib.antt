@@ -8,3 +8,5 @@ pub mod ShortAnswers
 pub mod Serving
 pub mod Tokens
 pub mod Logging
+pub mod Picks
+pub mod Figures
