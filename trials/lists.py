@@ -1,6 +1,6 @@
 """Random days' work, and after each tenth act each list (the books, the open orders, the items, the lots that expire, the
-lots in a bin), page by page and behind entries of all kinds, and the traces of lots, against a plain reckoning over the lines of `lotd history`. ACTS
-says how many acts (3,000), SEED from where the work is drawn. Needs the Rattle kit, and takes some minutes.
+lots in a bin), page by page and behind entries of all kinds, and the trace of a lot, against a plain reckoning over the lines of
+`lotd history`. ACTS says how many acts (3,000), SEED from where the work is drawn. Needs the Rattle kit, and takes some minutes.
 Exit status 0 only if every answer was, byte for byte, what is reckoned here.
 """
 import collections
@@ -277,8 +277,7 @@ def all_lists(clerk, db):
     are_told(clerk, path, "lots", books.acts, expiring, PAGE, of_lot)
     lot = chance.choice([lot for lot in books.lots if lot[1] not in (".", "..")])
     behind(clerk, "%s/%s/%s" % (path, lot[0], quoted(lot[1])), "lots", books.acts, expiring, PAGE, books.lots[lot])
-    for lot in chance.sample([lot for lot in books.lots if lot[1] not in (".", "..")], 1) + [lot]:
-        is_told(clerk, "/traces/%s/%s" % (lot[0], quoted(lot[1])), books.trace(lot))
+    is_told(clerk, "/traces/%s/%s" % (lot[0], quoted(lot[1])), books.trace(lot))
     name = chance.choice(list(books.kinds))
     path, found, beside = "/bins/" + quoted(name), books.in_bin(name), {"bin": name, "kind": books.kinds[name]}
     are_told(clerk, path, "lots", books.acts, found, PAGE, of_lot, **beside)
