@@ -7,6 +7,7 @@ use Rattle.commands.specs.declared.key.Key.TheVariants.{Line}
 use Rattle.commands.specs.declared.command.Command.TheVariants.{Receive}
 use Rattle.machine.specs.Queries.{order_shown, short_shown, stock_shown, card_shown, notice_shown}
 use Rattle.overviews.specs.Shown.{books_shown, open_orders_shown, item_names_shown, expiring_shown, bin_shown}
+use Rattle.overviews.specs.Shown.{trace_shown}
 use Rattle.goodsin.specs.Faults.{file_fault_code}
 use Rattle.goodsin.specs.Files.{file_read}
 use Rattle.goodsin.specs.declared.fault.FileFault.{FileFault}
@@ -18,6 +19,8 @@ use Rattle.texts.specs.PickList.{pick_list_text}
 use Rattle.texts.specs.Shortages.{shortages_text}
 use Rattle.texts.specs.Card.{card_text}
 use Rattle.texts.specs.Notice.{notice_text}
+use Rattle.requests.specs.declared.ask.Query.TheVariants.{Trace}
+use Rattle.wire.specs.declared.answer.Answer.TheVariants.{Trace as TraceAnswer}
 
 -- the version and the status
 abbrev pub status_of : List ℕ → List ℕ
@@ -130,6 +133,9 @@ card_answer first acts l = view_answer (λ v. Text (card_text v)) (card_shown fi
 abbrev pub notice_answer : ℤ → List Act → LotId → List ℕ
 notice_answer first acts l = view_answer (λ v. Text (notice_text v)) (notice_shown first acts l)
 
+abbrev pub trace_answer : ℤ → List Act → LotId → List ℕ
+trace_answer first acts l = view_answer TraceAnswer (trace_shown first acts l)
+
 abbrev pub query_answer : ℤ → List Act → Query → List ℕ
 query_answer first acts Books = books_answer first acts
 query_answer first acts (OpenOrders behind) = open_orders_answer first acts behind
@@ -142,6 +148,7 @@ query_answer first acts (PickList order) = pick_list_answer first acts order
 query_answer first acts (Shortages gtin) = shortages_answer first acts gtin
 query_answer first acts (Card lot) = card_answer first acts lot
 query_answer first acts (Notice lot) = notice_answer first acts lot
+query_answer first acts (Trace lot) = trace_answer first acts lot
 
 -- Requests. A label and a file are read at the business day.
 

@@ -18,7 +18,7 @@ use crate::filing::take_in;
 use crate::keeping::{KeepFault, Keeper};
 use crate::showing::{
     show_bin, show_books, show_card, show_expiring, show_item_names, show_notice, show_open_orders,
-    show_order, show_pick_list, show_shortages, show_stock,
+    show_order, show_pick_list, show_shortages, show_stock, show_trace,
 };
 use requests::{Ask, Query, Read, RouteTable, WireFault, read_request};
 use sqlite::Alter;
@@ -171,5 +171,6 @@ fn answer_ask<S: Alter>(alloc: Global, books: &mut Books<S>, ask: &Ask) -> Answe
         Ask::Show(Query::Shortages(gtin)) => show_shortages(alloc, books, gtin),
         Ask::Show(Query::Card(lot)) => show_card(alloc, books, lot),
         Ask::Show(Query::Notice(lot)) => show_notice(alloc, books, lot),
+        Ask::Show(Query::Trace(lot)) => show_trace(alloc, books, lot),
     }
 }
