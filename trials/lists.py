@@ -315,8 +315,7 @@ def all_lists(clerk, db):
     are_told(clerk, path, "lots", books.acts, expiring, PAGE, of_lot)
     lot = chance.choice([lot for lot in books.lots if lot[1] not in (".", "..")])
     behind(clerk, "%s/%s/%s" % (path, lot[0], quoted(lot[1])), "lots", books.acts, expiring, PAGE, books.lots[lot])
-    for lot in chance.sample([lot for lot in books.lots if lot[1] not in (".", "..")], 1) + [lot]:
-        is_told(clerk, "/traces/%s/%s" % (lot[0], quoted(lot[1])), books.trace(lot))
+    is_told(clerk, "/traces/%s/%s" % (lot[0], quoted(lot[1])), books.trace(lot))
     name = chance.choice(list(books.kinds))
     path, found, beside = "/bins/" + quoted(name), books.in_bin(name), {"bin": name, "kind": books.kinds[name]}
     are_told(clerk, path, "lots", books.acts, found, PAGE, of_lot, **beside)

@@ -61,6 +61,8 @@ pub use Rattle.machine.proofs.histories.LastLines.{last_line_tells_units}
 pub use Rattle.machine.proofs.histories.Lots.{found_lot}
 pub use Rattle.machine.proofs.histories.Runs.{history_after}
 pub use Rattle.overviews.specs.Shown.{books_shown, open_orders_shown, item_names_shown, expiring_shown, bin_shown}
+pub use Rattle.overviews.specs.Shown.{trace_shown}
+pub use Rattle.overviews.specs.declared.trace.TraceView.{TraceView}
 pub use Rattle.overviews.specs.declared.lists.BinView.{BinView}
 pub use Rattle.overviews.specs.declared.lists.BooksView.{BooksView}
 pub use Rattle.overviews.specs.declared.lists.ExpiringView.{ExpiringView}
@@ -85,7 +87,7 @@ pub use Rattle.requests.specs.Requests.{IsReading}
 pub use Rattle.requests.specs.declared.ask.Ask.{Ask}
 pub use Rattle.requests.specs.declared.ask.Ask.TheVariants.{Do, Scan, GoodsIn, Show}
 pub use Rattle.requests.specs.declared.ask.Query.{Query}
-pub use Rattle.requests.specs.declared.ask.Query.TheVariants.{Order, Stock, PickList, Books, OpenOrders, ItemNames, Expiring, Bin, Shortages, Card, Notice, Picks, Figures}
+pub use Rattle.requests.specs.declared.ask.Query.TheVariants.{Order, Stock, PickList, Books, OpenOrders, ItemNames, Expiring, Bin, Shortages, Card, Notice, Picks, Figures, Trace}
 pub use Rattle.requests.specs.declared.fault.WireFault.{WireFault}
 pub use Rattle.requests.specs.declared.fault.WireFault.TheVariants.{Length, Head, Json, Field, Path, Method, TooLarge, Memory}
 pub use Rattle.requests.specs.declared.request.Read.{Read}
@@ -96,11 +98,13 @@ unfoldable pub use Rattle.wire.specs.Answers.{head_text}
 pub use Rattle.wire.specs.Logging.{log_line}
 pub use Rattle.wire.specs.Shorts.{code_text, code_row_text, tally_text}
 pub use Rattle.wire.specs.declared.answer.Answer.{Answer}
-pub use Rattle.wire.specs.declared.answer.Answer.TheVariants.{Text, Books as BooksAnswer, OpenOrders as OpenOrdersAnswer, ItemNames as ItemNamesAnswer, Expiring as ExpiringAnswer, Bin as BinAnswer, Order as OrderAnswer, Stock as StockAnswer, Picks as PicksAnswer, Figures as FiguresAnswer}
+pub use Rattle.wire.specs.declared.answer.Answer.TheVariants.{Text, Books as BooksAnswer, OpenOrders as OpenOrdersAnswer, ItemNames as ItemNamesAnswer, Expiring as ExpiringAnswer, Bin as BinAnswer, Order as OrderAnswer, Stock as StockAnswer, Picks as PicksAnswer, Figures as FiguresAnswer, Trace as TraceAnswer}
 pub use Rattle.wire.specs.declared.serving.ServeFault.{ServeFault}
 pub use Rattle.wire.proofs.LogLines.{line_of_beginning, begun_by}
 pub use Rattle.house.specs.Answers.{short_answer, outcome_answer, not_served, is_served, act_answer, acts_with, Delivered, scan_answer, acts_scanned, receipt, acts_filed, acts_asked, acts_of, no_memory, answer_of, cause_answer, file_outcome_answer, file_fault_answer, file_answer, fault_answer, status_of, view_answer, foreign_books, label_answer, query_answer, ask_answer, cause_row_answer}
 pub use Rattle.house.specs.Asking.{told_answer, IsDone, IsUndone, scanned_answer, scanned_acts, told_file_answer, asked_answer, fault_shown, IsWritten, IsTextOf, act_of, delivered}
+pub use Rattle.house.specs.Asking.{whole_asked}
+pub use Rattle.queries.specs.ShownNotice.{whole}
 pub use Rattle.house.specs.House.{Step, Run, IsInPlace, bytes_of, Answers, LeavesBooks, StepsTo, RunsTo, texts_of, IsOneFurther, IsLongIfOk, IsAskedInPlace, books_of}
 pub use Rattle.house.specs.Keeping.{TellsNoAct, NoHistory, IsKeptIfTold}
 pub use Rattle.house.specs.Laws.{RefusedRequestsChangeNothing, BooksAreNeverForeign}

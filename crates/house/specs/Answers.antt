@@ -9,6 +9,7 @@ use Rattle.machine.specs.Queries.{order_shown, short_shown, stock_shown, card_sh
 use Rattle.overviews.specs.Shown.{books_shown, open_orders_shown, item_names_shown, expiring_shown, bin_shown}
 use Rattle.overviews.specs.Picks.{picks_shown}
 use Rattle.overviews.specs.Figures.{figures_shown}
+use Rattle.overviews.specs.Shown.{trace_shown}
 use Rattle.goodsin.specs.Faults.{file_fault_code}
 use Rattle.goodsin.specs.Files.{file_read}
 use Rattle.goodsin.specs.declared.fault.FileFault.{FileFault}
@@ -20,6 +21,8 @@ use Rattle.texts.specs.PickList.{pick_list_text}
 use Rattle.texts.specs.Shortages.{shortages_text}
 use Rattle.texts.specs.Card.{card_text}
 use Rattle.texts.specs.Notice.{notice_text}
+use Rattle.requests.specs.declared.ask.Query.TheVariants.{Trace}
+use Rattle.wire.specs.declared.answer.Answer.TheVariants.{Trace as TraceAnswer}
 
 -- the version and the status
 abbrev pub status_of : List ℕ → List ℕ
@@ -137,6 +140,8 @@ picks_answer first acts order = view_answer PicksAnswer (picks_shown first acts 
 
 abbrev pub figures_answer : ℤ → List Act → List ℕ
 figures_answer first acts = view_answer FiguresAnswer (figures_shown first acts)
+abbrev pub trace_answer : ℤ → List Act → LotId → List ℕ
+trace_answer first acts l = view_answer TraceAnswer (trace_shown first acts l)
 
 abbrev pub query_answer : ℤ → List Act → Query → List ℕ
 query_answer first acts Books = books_answer first acts
@@ -152,6 +157,7 @@ query_answer first acts (Card lot) = card_answer first acts lot
 query_answer first acts (Notice lot) = notice_answer first acts lot
 query_answer first acts (Picks order) = picks_answer first acts order
 query_answer first acts Figures = figures_answer first acts
+query_answer first acts (Trace lot) = trace_answer first acts lot
 
 -- Requests. A label and a file are read at the business day.
 
