@@ -140,6 +140,7 @@ picks_answer first acts order = view_answer PicksAnswer (picks_shown first acts 
 
 abbrev pub figures_answer : ℤ → List Act → List ℕ
 figures_answer first acts = view_answer FiguresAnswer (figures_shown first acts)
+
 abbrev pub trace_answer : ℤ → List Act → LotId → List ℕ
 trace_answer first acts l = view_answer TraceAnswer (trace_shown first acts l)
 
