@@ -1,12 +1,11 @@
-//! Lists of which one answer shows a page, the trace of a lot, and a shipment: their records, and what they show of the
-//! acts.
+//! Lists of which one answer shows a page, the trace of a lot, the pick list of an order and the figures of the house: their
+//! records, and what they show of the acts.
 #![tactic(auto)]
 
 mod figures;
 pub mod laws;
 mod lists;
 mod picks;
-mod shipment;
 mod trace;
 
 pub use figures::{FiguresView, LotFigures, OpenFigures, UnitFigures};
@@ -15,5 +14,4 @@ pub use lists::{
     OpenOrder, OpenOrdersView, PAGE_MAX,
 };
 pub use picks::{PickLine, PicksView};
-pub use shipment::{ShipmentLine, ShipmentView};
 pub use trace::{Delivery, StagedUnits, TraceView};
