@@ -1,6 +1,6 @@
 #!/bin/sh
 # Makes a Debian package of the built lotd: the program, the units and timers for systemd with their scripts, the page, the
-# documents, and the proxy's files as examples. Prints the path of the package, in ops/out. LOTD names the program; else build.sh proves it, and LLVM builds it.
+# documents, man pages, a completion for bash, and the proxy's files as examples. Prints the path of the package, in ops/out. LOTD names the program; else build.sh proves it, and LLVM builds it.
 # What `dpkg` does with it: at install it makes the user lotd and the folder /var/lib/lotd, and starts a server anew that runs;
 # at removal it ends the server; it never touches the books, the folder and the user.
 # Needs dpkg-dev (Debian).
@@ -22,6 +22,7 @@ documents=$root/usr/share/doc/lotd
 made=${SOURCE_DATE_EPOCH:-$(git log -1 --format=%ct)}
 version=$("$LOTD" --version | sed -n 's/^lotd \([0-9.]*\), schema .*/\1/p')+$(date -u -d "@$made" +%Y%m%d%H%M%S)
 arch=$(dpkg --print-architecture)
+maintainer="${DEBFULLNAME:-Lot stock} <${DEBEMAIL:-$(git log -1 --format=%ae)}>"
 
 # replaced FILE OLD NEW: the text of a file with each OLD as NEW; there has to be one
 replaced() {
@@ -33,6 +34,7 @@ replaced() {
 }
 
 install -D -m 755 "$LOTD" "$root/usr/bin/lotd"
+strip --strip-unneeded --remove-section=.comment --remove-section=.note "$root/usr/bin/lotd"
 install -d "$root/usr/lib/systemd/system" "$shared" "$documents/examples"
 # unit NAME: the unit of this name, over the program of the package
 unit() {
@@ -40,14 +42,37 @@ unit() {
         sed "/^#   systemctl daemon-reload/d; s| Put it into /etc/systemd/system, then:\$| As root: systemctl enable --now $1|" >"$root/usr/lib/systemd/system/$1.service"
 }
 
-for it in lotd lotd-standby lotd-day lotd-backup; do unit "$it"; done
-install -m 755 ops/lotd-day ops/lotd-backup "$root/usr/bin/"
-install -m 644 ops/lotd-restart.service ops/lotd-*.timer "$root/usr/lib/systemd/system/"
+for it in lotd lotd-standby lotd-day lotd-backup lotd-metrics; do unit "$it"; done
+install -m 755 ops/lotd-day ops/lotd-backup ops/lotd-metrics "$root/usr/bin/"
+install -m 644 ops/lotd-restart.service ops/lotd-alert@.service ops/lotd-*.timer "$root/usr/lib/systemd/system/"
 replaced ops/nginx-lotd.conf /usr/local/share/lotd /usr/share/lotd | sed '/^#   install -d/d; s/, readable by all:$/./' >"$documents/examples/nginx-lotd.conf"
 install -m 644 ops/nginx.conf trials/wire.txt "$documents/examples/"
-gzip -9n <docs/CHANGES.md >"$documents/changelog.gz"
 cp -r ops/page "$shared/"
 cp -r README.md docs "$documents/"
+install -m 644 ops/copyright ops/README.Debian "$documents/"
+install -D -m 644 ops/lotd.bash "$root/usr/share/bash-completion/completions/lotd"
+install -D -m 644 ops/lotd.sysusers "$root/usr/lib/sysusers.d/lotd.conf"
+install -D -m 644 ops/lotd.logrotate "$root/etc/logrotate.d/lotd"
+install -d -m 755 "$root/var/log/lotd"
+for it in ops/man/*; do
+    at=$root/usr/share/man/man${it##*.}
+    install -d "$at"
+    gzip -9n <"$it" >"$at/${it##*/}.gz"
+done
+# Debian's own form: this version, and what CHANGES.md says of the newest.
+{
+    printf 'lotd (%s) unstable; urgency=medium\n\n' "$version"
+    awk '/^## / { n++; if (n == 1) print "  * " substr($0, 4); next } n == 1 && /^- / { sub("^- ", "  - "); print "  " $0 }' docs/CHANGES.md | fold -s -w 68 | sed 's/^\([^ ]\)/      \1/; s/ *$//'
+    printf '    docs/CHANGES.md has all of it.\n\n -- %s  %s\n' "$maintainer" "$(date -R -u -d "@$made")"
+} >"$room/changelog"
+gzip -9n <"$room/changelog" >"$documents/changelog.gz"
+install -d "$root/usr/share/lintian/overrides"
+cat >"$root/usr/share/lintian/overrides/lotd" <<'OVERRIDES'
+# the page is handed out by the proxy, and is no document
+lotd: package-contains-documentation-outside-usr-share-doc [usr/share/lotd/page/index.html]
+# a removal takes the units away from their targets too: what was enabled is enabled anew, by hand
+lotd: maintainer-script-calls-systemctl [prerm:*]
+OVERRIDES
 
 mkdir "$root/DEBIAN" "$room/debian"
 printf 'Source: lotd\n\nPackage: lotd\nArchitecture: %s\n' "$arch" >"$room/debian/control"
@@ -56,7 +81,7 @@ cat >"$root/DEBIAN/control" <<CONTROL
 Package: lotd
 Version: $version
 Architecture: $arch
-Maintainer: ${DEBFULLNAME:-Lot stock} <${DEBEMAIL:-lotd@localhost}>
+Maintainer: $maintainer
 Installed-Size: $(du -sk "$root/usr" | cut -f 1)
 Depends: $depends, curl, passwd
 Recommends: nginx, openssl
@@ -73,6 +98,9 @@ cat >"$root/DEBIAN/postinst" <<'SCRIPT'
 #!/bin/sh
 set -e
 if [ "$1" = configure ]; then
+    if ! getent passwd lotd >/dev/null && command -v systemd-sysusers >/dev/null; then
+        systemd-sysusers lotd.conf
+    fi
     if ! getent passwd lotd >/dev/null; then
         useradd --system --user-group --home-dir /var/lib/lotd --no-create-home --shell /usr/sbin/nologin lotd
     fi
@@ -80,8 +108,9 @@ if [ "$1" = configure ]; then
         install -d -m 700 -o lotd -g lotd /var/lib/lotd
     fi
     if [ -d /run/systemd/system ]; then
-        systemctl daemon-reload
-        systemctl try-restart lotd.service lotd-standby.service lotd-day.timer lotd-backup.timer lotd-restart.timer
+        systemctl --system daemon-reload || true
+        # policy-rc.d is asked: an image that is built starts nothing
+        deb-systemd-invoke try-restart lotd.service lotd-standby.service lotd-day.timer lotd-backup.timer lotd-restart.timer || true
     fi
 fi
 SCRIPT
@@ -102,6 +131,7 @@ fi
 SCRIPT
 chmod 755 "$root/DEBIAN/postinst" "$root/DEBIAN/prerm" "$root/DEBIAN/postrm"
 chmod -R u=rwX,go=rX "$root"
+printf '/etc/logrotate.d/lotd\n' >"$root/DEBIAN/conffiles"
 (cd "$root" && find usr -type f -exec md5sum {} +) | LC_ALL=C sort -k 2 >"$root/DEBIAN/md5sums"
 find "$root" -exec touch -h -d "@$made" {} +
 

@@ -69,7 +69,7 @@ books() {
     (cd "$root/var/lib/lotd" && sha256sum stock.db*)
 }
 
-package=$(sh ops/package.sh)
+package=$(DEBEMAIL=${DEBEMAIL:-lotd@stock.example.org} sh ops/package.sh)
 if [ -n "${ROOT:-}" ]; then
     cp -a "$ROOT" "$root"
 else
@@ -82,7 +82,11 @@ expect "the package" "install ok installed" "$(within dpkg-query -W -f '${Status
 expect "the folder" "lotd lotd 700" "$(within stat -c '%U %G %a' /var/lib/lotd)"
 expect "the user's shell" /usr/sbin/nologin "$(within getent passwd lotd | cut -d: -f7)"
 expect "whether all files are as they were made" "" "$(within dpkg -V lotd)"
-expect "the list of what changed" "# Changes" "$(within zcat /usr/share/doc/lotd/changelog.gz | head -1)"
+expect "the list of what changed" "lotd ($(within dpkg-query -W -f '${Version}' lotd)) unstable; urgency=medium" "$(within zcat /usr/share/doc/lotd/changelog.gz | head -1)"
+expect "the man pages" "lotd.1.gz lotd-backup.8.gz lotd-day.8.gz lotd-metrics.8.gz" "$(within sh -c 'cd /usr/share/man && ls man1 man8 | grep ^lotd | tr "\n" " " | sed "s/ $//"')"
+if command -v lintian >/dev/null; then
+    expect "what lintian says" "" "$(lintian --allow-root --fail-on error "$package" | grep '^E:' || true)"
+fi
 for unit in lotd lotd-standby lotd-restart lotd-day lotd-backup; do
     if command -v systemd-analyze >/dev/null; then
         sed "s|/usr/bin/lotd|$root/usr/bin/lotd|" "$root/usr/lib/systemd/system/$unit.service" >"$room/$unit.service"
@@ -100,7 +104,7 @@ serve
 within openssl req -x509 -newkey rsa:2048 -nodes -days 2 -subj /CN=localhost -addext subjectAltName=DNS:localhost \
     -keyout /etc/nginx/lotd.key -out /etc/nginx/lotd.crt 2>/dev/null
 within sh -c 'printf "scanner:%s\n" "$(openssl passwd -apr1 secret)" >/etc/nginx/lotd.users; chown root:www-data /etc/nginx/lotd.users; chmod 640 /etc/nginx/lotd.users'
-sed -e "s|listen 8443 ssl;|listen 127.0.0.1:$tls ssl;|" -e "s|127.0.0.1:8080;|127.0.0.1:$port;|" \
+sed -e "s|listen 8443 ssl http2;|listen 127.0.0.1:$tls ssl http2;|" -e "s|127.0.0.1:8080;|127.0.0.1:$port;|" \
     "$root/usr/share/doc/lotd/examples/nginx-lotd.conf" >"$root/etc/nginx/conf.d/lotd.conf"
 rm -f "$root/etc/nginx/sites-enabled/default"
 expect "the file beside what Debian's nginx has" 0 "$(within nginx -t -q >"$room/log" 2>&1; echo $?)"
