@@ -73,7 +73,7 @@ package=$(sh ops/package.sh)
 if [ -n "${ROOT:-}" ]; then
     cp -a "$ROOT" "$root"
 else
-    debootstrap --variant=minbase --include=nginx,openssl,curl,systemd,systemd-sysv,dbus,nftables,logrotate,openssh-client,man-db "$(sed -n 's/^VERSION_CODENAME=//p' /etc/os-release)" "$root" >"$room/log" ||
+    debootstrap --variant=minbase --include=nginx,openssl,curl,systemd,systemd-sysv,dbus,nftables,logrotate,iproute2,man-db "$(sed -n 's/^VERSION_CODENAME=//p' /etc/os-release)" "$root" >"$room/log" ||
         { tail -5 "$room/log" >&2; exit 1; }
 fi
 cp "$package" "$root/lotd.deb"
