@@ -125,10 +125,10 @@ if [ "$1" = configure ]; then
     if [ ! -e /var/lib/lotd ]; then
         install -d -m 700 -o lotd -g lotd /var/lib/lotd
     fi
-    # Who asked what is for the administrators alone.
+    # Who asked what is for the administrators alone; a worker of nginx opens the file by its name.
     if [ -z "$2" ] && ! dpkg-statoverride --list /var/log/lotd >/dev/null; then
         chown root:adm /var/log/lotd
-        chmod 750 /var/log/lotd
+        chmod 751 /var/log/lotd
     fi
     for unit in @ENABLED@; do
         deb-systemd-helper unmask "$unit" >/dev/null || true

@@ -243,7 +243,7 @@ expect "times of each request" True "$(python3 -c 'import json, sys; print(all(0
 within logrotate -f /etc/logrotate.d/lotd
 through -o /dev/null https://localhost:8443/books
 sleep 1
-expect "the log behind its rotation" "1 access.log access.log-$(within date +%Y%m%d) 640 750" \
+expect "the log behind its rotation" "1 access.log access.log-$(within date +%Y%m%d) 640 751" \
     "$(wc -l <"$root/var/log/lotd/access.log") $(within ls /var/log/lotd | tr '\n' ' ')$(within stat -c %a /var/log/lotd/access.log /var/log/lotd | tr '\n' ' ' | sed 's/ $//')"
 echo "  the proxy's log has who received, as JSON, and is rotated"
 
