@@ -197,9 +197,10 @@ expect "the server, behind a copy that was killed" active "$(within systemctl is
 expect "which is told" lotd-backup.service "$(within systemctl --failed --plain --no-legend | cut -d ' ' -f 1)"
 within sh -c 'rm /usr/local/bin/cp; printf "#!/bin/sh\ncase \$* in *.part) sleep 30 ;; esac\nexec /bin/mkdir \"\$@\"\n" >/usr/local/bin/mkdir; chmod 755 /usr/local/bin/mkdir; systemctl start --no-block lotd-backup'
 for _ in $(seq 100); do
-    if within sh -c 'grep -qs "\.part" /proc/[0-9]*/cmdline'; then break; fi
-    sleep 0.1
+    if within sh -c 'grep -qs "[.]part" /proc/[0-9]*/cmdline'; then break; fi
+    sleep 0.3
 done
+answers
 expect "the server, while the folder does not answer" "active 200" "$(within systemctl is-active lotd) $(through -o /dev/null -w '%{http_code}' https://localhost:8443/health)"
 within sh -c 'systemctl stop lotd-backup; rm /usr/local/bin/mkdir; systemctl reset-failed'
 expect "and the next copy" success "$(run lotd-backup)"
