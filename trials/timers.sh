@@ -7,6 +7,7 @@
 # copy is killed, and while the folder of the copies does not answer; a server that cannot start has failed, tells it, and goes on
 # by itself; who reaches the port; what is exposed of the units; metrics; the proxy's log and its rotation; a server that has just
 # begun is not started anew; timers that are missed by night come with the next boot; a removal, and an installation behind it.
+# Needs root, iproute2, python3, and systemd-nspawn of systemd-container.
 # Exit status 0 only if all was as expected, and 3 where no container can be booted. Takes four minutes.
 set -eu
 root=$1
@@ -16,8 +17,10 @@ if ! command -v systemd-nspawn >/dev/null; then
 fi
 machine=
 leader=
+other=
 
 end() {
+    if [ -n "$other" ]; then kill "$other" 2>/dev/null || true; fi
     if [ -n "$machine" ]; then kill -KILL "$machine" 2>/dev/null || true; wait "$machine" 2>/dev/null || true; fi
 }
 trap end EXIT
@@ -118,6 +121,29 @@ expect "what is exposed" "lotd 0.9 lotd-day 0.9 lotd-metrics 0.9" "$(for unit in
 within sh -c 'nft flush ruleset; systemctl start lotd-metrics'
 expect "the table of the ports, behind a tool that empties all" lotd "$(within nft list tables | sed 's/table inet //')"
 echo "  the port is reached by the proxy and the server's user alone"
+
+# Another machine, which is a network of its own on this one, opens 150 connections to the proxy, and 20 more from another address.
+unshare -n sleep 600 &
+other=$!
+sleep 1
+ip link add lotd0 netns "$leader" type veth peer name lotd1 netns "$other"
+within sh -c 'ip address add 192.0.2.1/24 dev lotd0; ip link set lotd0 up'
+nsenter -t "$other" -n sh -c 'ip address add 192.0.2.2/24 dev lotd1; ip address add 192.0.2.3/24 dev lotd1; ip link set lotd1 up'
+expect "connections at once of an address, and of another" "100 20" "$(nsenter -t "$other" -n python3 -c '
+import socket
+open_ones = []
+def taken(count, address):
+    before = len(open_ones)
+    for _ in range(count):
+        try:
+            open_ones.append(socket.create_connection(("192.0.2.1", 8443), 5, (address, 0)))
+        except OSError:
+            pass
+    return len(open_ones) - before
+print(taken(150, "192.0.2.2"), taken(20, "192.0.2.3"))')"
+kill "$other"
+other=
+echo "  an address has at most 100 connections to the proxy"
 
 # The books have something of that day.
 for it in 'items {"key":"I-1","gtin":"09506000134352","name":"Oat drink"}' 'bins {"key":"B-1","bin":"A-01","kind":"STORE"}' \
@@ -265,7 +291,7 @@ for _ in $(seq 100); do
     if [ "$(one day day)" = "$today" ] && [ "$(one copy sound)" = true ]; then break; fi
     sleep 0.3
 done
-expect "the day, after nights off" "$today 200" "$(one day day) $(one day status)"
+expect "the day, after nights off" "$today S10" "$(one day day) $(one day code)"
 expect "the copy, after nights off" true "$(one copy sound)"
 expect "the server" active "$(within systemctl is-active lotd)"
 expect "what failed" "" "$(within systemctl --failed --plain --no-legend)"
