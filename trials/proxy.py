@@ -228,6 +228,13 @@ def is_its_own():
     print("  no field of a client comes to the server; another name of the machine is refused", flush=True)
 
 
+def imported(name):
+    """The modules that a module of the page imports, before anything of it runs."""
+    with open(os.path.join(server.TOP, "ops/page", name), encoding="utf-8") as file:
+        paths = re.findall(r'^(?:import|export)\b[^;]*?"(\.[^"]+)";', file.read(), re.M)
+    return {os.path.normpath(os.path.join(os.path.dirname(name), it)) for it in paths}
+
+
 def is_packed():
     """HTTP/2, packed where the client takes it, and every module named in the page's head."""
     with connected(["h2", "http/1.1"]) as peer:
@@ -237,8 +244,10 @@ def is_packed():
         is_told("main.js, packed", (True, file.read()), ("Content-Encoding: gzip" in told, gzip.decompress(joined(body))))
     with open(os.path.join(server.TOP, "ops/page/index.html"), encoding="utf-8") as file:
         named = set(re.findall(r'rel="modulepreload" href="([^"]+)"', file.read()))
-    top = os.path.join(server.TOP, "ops/page")
-    modules = {os.path.relpath(os.path.join(at, name), top) for at, _, names in os.walk(top) for name in names if name.endswith(".js")}
+    modules, more = set(), {"main.js"}
+    while more:
+        modules |= more
+        more = {it for name in more for it in imported(name)} - modules
     is_told("modules that index.html does not name, or names and has not", set(), (modules - {"main.js"}) ^ named)
     print("  HTTP/2, packed; the page's head names each of its %d modules" % len(modules), flush=True)
 
