@@ -202,7 +202,7 @@ def has_rights():
         fields = [authorized(name)]
         is_told("a bin of " + name, makes, posted("/bins", bin, *fields))
         is_told("a move of " + name, moves, posted("/moves", move, *fields))
-        is_told("what %s asks" % name, asks, shown("/books", *fields)[0])
+        is_told("what %s asks" % name, [asks, asks], [shown(path, *fields)[0] for path in ("/books", "/health")])
     for path in ("/holds", "/releases", "/recalls", "/leasts", "/items", "/bins", "/days", "/bins/", "//bins", "/%62ins", "/receipts/../bins", "/bins?x"):
         is_told("POST %s of picker-1" % path, no, posted(path, bin, authorized("picker-1")))
     is_told("the bin", (404, '{"code":"U02"}'), shown("/bins/A-09"))
