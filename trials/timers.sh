@@ -297,7 +297,7 @@ expect "the server" active "$(within systemctl is-active lotd)"
 expect "what failed" "" "$(within systemctl --failed --plain --no-legend)"
 echo "  timers: on, and late where the machine was off"
 within dpkg -r lotd >/dev/null 2>&1
-expect "timers behind a removal" "" "$(within systemctl list-timers --all --no-legend | grep lotd || true)"
+expect "timers behind a removal" "" "$(within systemctl list-timers --no-legend | grep lotd || true)"
 expect "who listens behind a removal" "" "$(within ss -ltnH 'sport = 8080')"
 within dpkg -i /lotd.deb >/dev/null 2>&1
 expect "what is enabled behind another installation" "enabled enabled enabled enabled" "$(within systemctl is-enabled lotd lotd-day.timer lotd-backup.timer lotd-restart.timer | tr '\n' ' ' | sed 's/ $//')"
