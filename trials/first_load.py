@@ -77,7 +77,7 @@ def loaded():
 
 
 def first():
-    """In a browser of its own profile, so that nothing is kept and nobody has logged in."""
+    """In a browser of its own profile, which has nothing yet, and where nobody has logged in."""
     profile = os.path.join(room, "first-%d" % time.monotonic_ns())
     os.mkdir(profile)
     options = browser.webdriver.ChromeOptions()

@@ -211,7 +211,7 @@ def has_rights():
 
 
 def is_its_own():
-    """Only what the server needs comes to it; by another name of the machine nothing is answered; what a browser is told."""
+    """Only what the server needs comes to it; by another name of the machine nothing is answered; what the proxy tells a browser."""
     many = ["X-%d: %d" % (it, it) for it in range(40)]
     large = ["Cookie: a=" + "x" * 4500, "X-B: " + "y" * 4500]
     for number, fields in enumerate((many, large, ["Content-Type: text/plain", "X-Forwarded-For: 192.0.2.1", "Expect: 100-continue"])):
@@ -269,7 +269,7 @@ def is_not_guessed():
         is_told("beside those who guess", 200, shown("/books")[0])
         took = time.monotonic() - began
         told = [status for it in made for status in it.result()]
-    is_told("what who guesses is told", {401}, set(told))
+    is_told("answers to guesses", {401}, set(told))
     # Those within 6 seconds, and the 24 that were on their way then.
     if not 20 <= len(told) <= 5 * 6 + 24 + 6:
         fail("guesses within 6 s", "5 a second", len(told))
