@@ -126,6 +126,12 @@ sed -i "s|listen 8443 |listen 127.0.0.1:$tls |" "$root/etc/nginx/conf.d/lotd.con
 expect "the certificate" "lotd.crt: OK" "$(cd "$root/etc/nginx" && openssl verify -CAfile lotd-ca.crt -verify_hostname localhost lotd.crt)"
 expect "by which curve" "ASN1 OID: prime256v1" "$(openssl x509 -in "$root/etc/nginx/lotd.crt" -noout -text | grep -o 'ASN1 OID.*')"
 expect "files of an authority's key" "" "$(grep -lr 'PRIVATE KEY' "$root/etc/nginx" "$root/run" | grep -v /lotd.key || true)"
+mkdir "$room/kept"
+mv "$root"/etc/nginx/lotd*.crt "$root/etc/nginx/lotd.key" "$room/kept"
+openssl req -x509 -newkey rsa:2048 -nodes -days 9 -subj /CN=localhost -addext subjectAltName=DNS:localhost -keyout "$root/etc/nginx/lotd.key" -out "$root/etc/nginx/lotd.crt" 2>/dev/null
+expect "what it says of a certificate that may sign for any site" 1 "$(within lotd-proxy 2>&1 | grep -c 'may sign for any site')"
+mv "$room"/kept/* "$root/etc/nginx/"
+sed -i "s|listen 8443 |listen 127.0.0.1:$tls |" "$root/etc/nginx/conf.d/lotd.conf"
 sed -n '/^\[req\]$/,/^nameConstraints/{p;/^nameConstraints/q}' "$root/usr/bin/lotd-proxy" | sed "s/\\\$NAME/localhost/; s/\$NAME/localhost/" >"$room/authority"
 openssl req -x509 -days 9 -config "$room/authority" -newkey ec -pkeyopt ec_paramgen_curve:P-256 -nodes -keyout "$room/a.key" -out "$room/a.crt" 2>/dev/null
 for it in DNS:localhost DNS:bank.example IP:192.0.2.1; do
