@@ -472,7 +472,7 @@ def is_shut_to_other_sites():
 
 
 def bars_names():
-    """A name that begins with picker may pick, and not recall."""
+    """A name with the right `pick` may pick, and not recall."""
     browser.log_in("picker-1")
     go("lot/%s/L4" % OAT)
     until("the lot", lambda: "Stock card" in text("main"))
