@@ -40,13 +40,14 @@ unit() {
         sed "/^#   systemctl daemon-reload/d; s| Put it into /etc/systemd/system, then:\$| As root: systemctl enable --now $1|" >"$root/usr/lib/systemd/system/$1.service"
 }
 
-for it in lotd lotd-standby lotd-day lotd-backup; do unit "$it"; done
-install -m 755 ops/lotd-day ops/lotd-backup "$root/usr/bin/"
+for it in lotd lotd-standby lotd-day lotd-backup lotd-reports; do unit "$it"; done
+install -m 755 ops/lotd-day ops/lotd-backup ops/lotd-reports ops/lotd-letters "$root/usr/bin/"
 install -m 644 ops/lotd-restart.service ops/lotd-*.timer "$root/usr/lib/systemd/system/"
 replaced ops/nginx-lotd.conf /usr/local/share/lotd /usr/share/lotd | sed '/^#   install -d/d; s/, readable by all:$/./' >"$documents/examples/nginx-lotd.conf"
 install -m 644 ops/nginx.conf trials/wire.txt "$documents/examples/"
 gzip -9n <docs/CHANGES.md >"$documents/changelog.gz"
-cp -r ops/page "$shared/"
+cp -r ops/page ops/reports "$shared/"
+install -m 644 ops/openapi.yaml "$documents/"
 cp -r README.md docs "$documents/"
 
 mkdir "$root/DEBIAN" "$room/debian"
@@ -59,8 +60,8 @@ Architecture: $arch
 Maintainer: ${DEBFULLNAME:-Lot stock} <${DEBEMAIL:-lotd@localhost}>
 Installed-Size: $(du -sk "$root/usr" | cut -f 1)
 Depends: $depends, curl, passwd
-Recommends: nginx, openssl
-Suggests: openssh-client, sqlite3
+Recommends: nginx, openssl, sqlite3 (>= 3.38)
+Suggests: openssh-client
 Section: misc
 Priority: optional
 Description: stock system of a food wholesaler's warehouse
@@ -81,7 +82,7 @@ if [ "$1" = configure ]; then
     fi
     if [ -d /run/systemd/system ]; then
         systemctl daemon-reload
-        systemctl try-restart lotd.service lotd-standby.service lotd-day.timer lotd-backup.timer lotd-restart.timer
+        systemctl try-restart lotd.service lotd-standby.service lotd-day.timer lotd-backup.timer lotd-restart.timer lotd-reports.timer
     fi
 fi
 SCRIPT
@@ -89,7 +90,7 @@ cat >"$root/DEBIAN/prerm" <<'SCRIPT'
 #!/bin/sh
 set -e
 if [ "$1" = remove ] && [ -d /run/systemd/system ]; then
-    systemctl disable --now lotd-day.timer lotd-backup.timer lotd-restart.timer lotd.service lotd-standby.service || true
+    systemctl disable --now lotd-day.timer lotd-backup.timer lotd-restart.timer lotd-reports.timer lotd.service lotd-standby.service || true
 fi
 SCRIPT
 cat >"$root/DEBIAN/postrm" <<'SCRIPT'
