@@ -73,7 +73,7 @@ package=$(sh ops/package.sh)
 if [ -n "${ROOT:-}" ]; then
     cp -a "$ROOT" "$root"
 else
-    debootstrap --variant=minbase --include=nginx,openssl,curl,systemd,systemd-sysv,dbus "$(sed -n 's/^VERSION_CODENAME=//p' /etc/os-release)" "$root" >"$room/log" ||
+    debootstrap --variant=minbase --include=nginx,openssl,curl,systemd,systemd-sysv,dbus,sqlite3 "$(sed -n 's/^VERSION_CODENAME=//p' /etc/os-release)" "$root" >"$room/log" ||
         { tail -5 "$room/log" >&2; exit 1; }
 fi
 cp "$package" "$root/lotd.deb"
@@ -83,7 +83,7 @@ expect "the folder" "lotd lotd 700" "$(within stat -c '%U %G %a' /var/lib/lotd)"
 expect "the user's shell" /usr/sbin/nologin "$(within getent passwd lotd | cut -d: -f7)"
 expect "whether all files are as they were made" "" "$(within dpkg -V lotd)"
 expect "the list of what changed" "# Changes" "$(within zcat /usr/share/doc/lotd/changelog.gz | head -1)"
-for unit in lotd lotd-standby lotd-restart lotd-day lotd-backup; do
+for unit in lotd lotd-standby lotd-restart lotd-day lotd-backup lotd-reports; do
     if command -v systemd-analyze >/dev/null; then
         sed "s|/usr/bin/lotd|$root/usr/bin/lotd|" "$root/usr/lib/systemd/system/$unit.service" >"$room/$unit.service"
         expect "the unit $unit" "" "$(systemd-analyze verify --man=no "$room/$unit.service" 2>&1 | grep "$unit.service" || true)"

@@ -2,7 +2,7 @@
 # The timers of the package on a real systemd: `sh trials/timers.sh ROOT`. ROOT is a folder with Debian, systemd and the package,
 # as trials/package.sh makes it, whose books are made anew; it is booted as a container without a network of its own, and all is asked
 # within. The day is opened, opened again, and opened once a server that was down is up; books of a year ago are brought to today;
-# a copy is made and audited; old copies go; a night without books, and one whose books are damaged, are failures, and the server
+# a copy is made and audited; old copies go; reports are made of it; a night without books, and one whose books are damaged, are failures, and the server
 # runs behind each; a server that has just begun is not started anew; timers that are missed by night come with the next boot;
 # what the proxy hands out of it.
 # Exit status 0 only if all was as expected, and 3 where no container can be booted. Takes a minute and a half.
@@ -138,12 +138,20 @@ within sh -c 'cp -p /sound.db /var/lib/lotd/stock.db; if [ -e /sound.db-wal ]; t
 expect "a server that was ended is not started by a copy" inactive "$(within sh -c 'systemctl stop lotd; systemctl start lotd-backup; systemctl is-active lotd || true')"
 echo "  copies: made, audited, the last 14 kept; without books, and of damaged ones, a failure"
 
+# The reports.
+expect "the reports" success "$(run lotd-reports)"
+expect "who may read them" "lotd www-data 750" "$(within stat -c '%U %G %a' /var/lib/lotd-reports/now)"
+expect "the page of the reports" "200 text/html; charset=utf-8" \
+    "$(within curl -sk -u scanner:secret -o /dev/null -w '%{http_code} %{content_type}' https://localhost:8443/reports/)"
+expect "what is left beside them" 0 "$(within sh -c 'ls /var/tmp | grep -c lotd-reports || true')"
+echo "  reports: made of the newest copy, handed out by the proxy"
+
 # The start anew, and what comes late.
 within systemctl start lotd
 before=$(within systemctl show -P MainPID lotd)
 run lotd-restart >/dev/null
 expect "a server that has just begun" "$before" "$(within systemctl show -P MainPID lotd)"
-for timer in day backup restart; do
+for timer in day backup restart reports; do
     within systemctl enable --now "lotd-$timer.timer" >/dev/null 2>&1
     expect "the timer of $timer" active "$(within systemctl is-active "lotd-$timer.timer")"
 done
