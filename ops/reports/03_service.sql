@@ -1,3 +1,4 @@
+-- title: Service level
 -- Orders by the month in which they were taken: what could be promised at once, what was shipped since, how many days it took. A cancelled order counts as taken.
 -- bar: promised_at_once_percent
 WITH o AS (

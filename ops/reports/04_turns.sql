@@ -1,3 +1,4 @@
+-- title: Stock turns
 -- Units of each item over the period: at its start, in, out, at its end; the mean of all its days; how often the stock turned, for a year of 365 days.
 -- bar: turns_a_year
 WITH p AS (SELECT first, last, last - first + 1 AS days FROM asked),

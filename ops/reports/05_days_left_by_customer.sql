@@ -1,3 +1,4 @@
+-- title: Days left, by customer
 -- How many days the lots had left as they were shipped, by customer; the mean is that of the units.
 -- bar: mean
 SELECT customer, count(DISTINCT number) AS shipments, sum(qty) AS units, min(days_left) AS fewest, round(1.0 * sum(qty * days_left) / sum(qty), 1) AS mean,

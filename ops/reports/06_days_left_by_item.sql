@@ -1,3 +1,4 @@
+-- title: Days left, by item
 -- How many days the lots of an item had left as they came and as they were shipped.
 -- bar: mean_as_shipped
 SELECT i.gtin, i.name AS item, (SELECT days FROM least WHERE gtin = i.gtin) AS least,

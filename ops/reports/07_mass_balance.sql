@@ -1,3 +1,4 @@
+-- title: Mass balance
 -- Lots whose units do not come out: what the cards show as received, written on, written off and shipped, against bins, stages and shipments. No row: the books balance.
 WITH m AS (
   SELECT t.gtin, t.lot, coalesce((SELECT sum(qty) FROM card c WHERE c.gtin = t.gtin AND c.lot = t.lot), 0) AS by_cards,

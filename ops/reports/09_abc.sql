@@ -1,3 +1,4 @@
+-- title: ABC
 -- Items by the units that were shipped: A the first 80 percent of all, B up to 95, C the rest, - none.
 -- bar: units
 WITH s AS (

@@ -1,3 +1,4 @@
+-- title: Slow lots
 -- Lots in the house of which nothing was shipped for 30 days, or ever, and that came 30 days ago or more; with their age and the days that they have left.
 -- bar: units
 WITH n AS (SELECT day FROM meta),

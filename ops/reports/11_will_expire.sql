@@ -1,3 +1,4 @@
+-- title: What will expire
 -- Units that will be past what their item asks for before they are shipped, if the item goes on at the pace of the last 28 days and the lot that expires first goes first.
 -- bar: units_at_risk
 WITH n AS (SELECT day FROM meta),

@@ -1,3 +1,4 @@
+-- title: Counts
 -- Counts by month: how many were right, and what the others changed.
 -- bar: right_percent
 SELECT strftime('%Y-%m', a.day + 2440587.5) AS month, count(*) AS counts, sum(json_extract(reply, '$.change') = 0) AS right,

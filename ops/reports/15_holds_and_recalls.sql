@@ -1,3 +1,4 @@
+-- title: Holds and recalls
 -- Holds and recalls of the period: since when, until when, what came back from stages, what had gone to customers before.
 SELECT 'HOLD' AS what, h.gtin, i.name AS item, h.lot, date(h.day + 2440587.5) AS since, (SELECT date(day + 2440587.5) FROM act WHERE act = h.ended) AS until,
        coalesce((SELECT day FROM act WHERE act = h.ended), (SELECT day FROM meta)) - h.day AS days, h.returned, h.who,

@@ -1,3 +1,4 @@
+-- title: What may be promised
 -- Units of each item that may be promised today, in 7, in 14 and in 30 days, if nothing else comes or goes: what may still be shipped then, less what orders still need.
 -- bar: free_today
 WITH n AS (SELECT day FROM meta),

@@ -1,3 +1,4 @@
+-- title: Open orders by age
 -- Open orders, the oldest first: what is still to ship, and what of it is staged, reserved, short.
 -- bar: days
 WITH o AS (

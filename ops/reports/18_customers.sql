@@ -1,3 +1,4 @@
+-- title: Customers
 -- Customers over the period: orders that they gave, units ordered, units of these shipped since, how many items, the last shipment.
 -- bar: units_shipped
 SELECT customer, count(DISTINCT ord) AS orders, sum(ordered) AS units_ordered, sum(shipped) AS units_shipped, round(100.0 * sum(shipped) / sum(ordered), 1) AS shipped_percent,

@@ -23,7 +23,7 @@ function html(text) {
     if (page == "" || NR > most + 1) next
     cells = ""
     for (i = 1; i <= NF; i++) {
-        if (NR == 1) { if ($i == bar) column = i; name = $i; gsub(/_/, " ", name); cells = cells "<th scope=\"col\">" html(name) "</th>" }
+        if (NR == 1) { name = $i; gsub(/_/, " ", name); if ($i == bar) { column = i; named = name } cells = cells "<th scope=\"col\">" html(name) "</th>" }
         else cells = cells (is_number($i) && length($i) < 12 ? "<td class=\"n\">" : "<td>") html($i) "</td>"
     }
     row[NR] = cells
@@ -32,7 +32,8 @@ function html(text) {
 
 END {
     if (page == "" || NR == 0) exit
-    printf "<thead><tr>%s%s</tr></thead>\n<tbody>\n", row[1], column ? "<th scope=\"col\" aria-label=\"bar\"></th>" : "" >page
+    if (bar ~ /_percent$/) largest = 100
+    printf "<thead><tr>%s%s</tr></thead>\n<tbody>\n", row[1], column ? "<th scope=\"col\">" named "</th>" : "" >page
     for (n = 2; n <= NR && n <= most + 1; n++) {
         printf "<tr>%s", row[n] >page
         if (column) {
