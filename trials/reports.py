@@ -4,7 +4,7 @@ from an older copy and the file of the acts, while it runs, and are those of the
 that begins as a formula is none in the CSV; the page has each row, no script and no style of its own; letters of a recall; what is no
 copy, a file of the acts of other books, and words that are none; a row that was changed is told by the mass balance. The proxy hands
 the reports out, and not to a picker.
-Needs the Rattle kit and sqlite3, and nginx and openssl for the proxy. DAYS (250), SEED, PORT (18304, and the next one). Takes a minute.
+Needs the Rattle kit and sqlite3, and nginx and openssl for the proxy. DAYS (250), SEED, PORT (18304, and the next two). Takes a minute or two.
 Exit status 0 only if all held, and 3 where sqlite3, nginx or openssl is not there: without the last two, all else was as expected.
 """
 import collections
@@ -276,13 +276,21 @@ def are_lists(out, it):
         found[row.delivery].append(row)
     rows = [(name, them[0].day, len(them), len({row.gtin for row in them}), sum(row.qty for row in them), min(map(it.left, them))) for name, them in found.items()]
     is_told("deliveries", texts(rows), columns(report(out, "14_deliveries"), "delivery", "first_day", "lines", "items", "units", "fewest_days_left"))
-    rows = [(row.word, row.gtin, row.lot, row.day, row.returned, row.who, sum(one.qty for one in it.house.shipped if (one.gtin, one.lot) == (row.gtin, row.lot) and one.act < row.act))
+    rows = [(row.word, row.gtin, row.lot, row.day, *ended(it.house, row), row.returned, row.who, sum(one.qty for one in it.house.shipped if (one.gtin, one.lot) == (row.gtin, row.lot) and one.act < row.act))
             for row in it.held_acts if row.word != "RELEASE"]
-    is_told("holds and recalls", sorted(texts(rows)), sorted(columns(report(out, "15_holds_and_recalls"), "what", "gtin", "lot", "since", "returned", "who", "shipped_before")))
+    is_told("holds and recalls", sorted(texts(rows)), sorted(columns(report(out, "15_holds_and_recalls"), "what", "gtin", "lot", "since", "until", "days", "returned", "who", "shipped_before")))
     rows = report(out, "19_house")
     is_told("the house", sorted(texts(it.house_at(it.last))), sorted(columns(rows, "gtin", "item", "lot", "expiry", "units")))
     is_told("the traceability sheet", texts(it.trace()), columns(report(out, "20_trace"), *TRACE))
     is_told("lots that do not come out", [], report(out, "07_mass_balance"))
+
+
+def ended(house, held):
+    """The day on which a hold ended, and how many days it was there; nothing of a recall."""
+    if held.word == "RECALL":
+        return "", ""
+    until = next((row.day for row in house.held_acts if row.word != "HOLD" and (row.gtin, row.lot) == (held.gtin, held.lot) and row.act > held.act), None)
+    return until or "", ((until or house.day) - held.day).days
 
 
 def are_of_now(out, house):
@@ -362,6 +370,7 @@ def are_questions(house, it):
     for day in (it.first, it.last):
         is_told("the house at the end of a day", sorted(texts(whole.house_at(day))), sorted(columns(answer("house", str(day)), "gtin", "item", "lot", "expiry", "units")))
     lots = house.chance.sample(sorted(house.expiry), 6) + sorted(house.recalled)[:2] + sorted({key[1:] for key, qty in house.staged.items() if qty})[:1]
+    lots += sorted({(row.gtin, row.lot) for row in house.written if row.qty > 0})[:2] + sorted(house.held)[:1]
     for lot in lots:
         is_told("trace of a lot", [row for row in everything if (row[3], row[5]) == lot], columns(answer("trace", *lot), *TRACE))
         is_lot(house, lot)
@@ -578,6 +587,7 @@ def year(house, room, days):
     with Server(lotd, books, PORT, 1_000_000, words):
         for number in range(half, days):
             house.works(number)
+        house.corners()
         print("  %d acts of %d days tallied" % (house.act, days), flush=True)
         are_letters(house, room)
         made("all", room + "/live", acts="--acts %s/stock.acts" % room, FOLDER=room + "/copies")

@@ -164,20 +164,25 @@ class House:
         self.stock[(*lot, place)] += qty
         self.received.append(Received(self.day, act, *lot, qty, name, line, place))
 
+    def order(self, name, customer, lines, urgent):
+        answer = self.post("/urgents" if urgent else "/orders", "URGENT" if urgent else "ORDER", "MM", order=name, customer=customer,
+                           lines=[{"gtin": gtin, "qty": qty} for gtin, qty in lines.items()])
+        self.orders[name] = Order(name, customer, self.day, self.act, "MM", lines, answer["short"], urgent)
+
+    def cancel(self, name):
+        self.post("/cancels", "CANCEL", "MM", order=name)
+        self.orders[name].cancelled = True
+
     def take_order(self):
         """An order of some lines; some are cancelled, some never picked, some picked and shipped on another day."""
         number = self.number("order")
         name, customer = self.chance.choice(["S-%d", "S-%d", "-%d-1"]) % number, self.chance.choice(CUSTOMERS)
         sold = [gtin for gtin in self.items if self.pace[gtin]]
         lines = {gtin: self.chance.randint(1, 4 + 2 * self.pace[gtin]) for gtin in self.chance.sample(sold, self.chance.randint(1, min(4, len(sold))))}
-        urgent = self.chance.random() < 0.08
-        answer = self.post("/urgents" if urgent else "/orders", "URGENT" if urgent else "ORDER", "MM", order=name, customer=customer,
-                           lines=[{"gtin": gtin, "qty": qty} for gtin, qty in lines.items()])
-        self.orders[name] = Order(name, customer, self.day, self.act, "MM", lines, answer["short"], urgent)
+        self.order(name, customer, lines, self.chance.random() < 0.08)
         fate = self.chance.random()
         if fate < 0.04:
-            self.post("/cancels", "CANCEL", "MM", order=name)
-            self.orders[name].cancelled = True
+            self.cancel(name)
         elif fate < 0.9:
             self.pick(name)
             if fate < 0.8:
@@ -300,6 +305,30 @@ class House:
         self.held.discard(lot)
         self.recalled.add(lot)
         self.of_lot("/recalls", "RECALL", lot)
+
+    def corners(self):
+        """What chance may leave out: an order that is cancelled once a part of it is shipped; a lot that is written on; one that is written off
+        while it is held, and once it is released; one that is held, and one that was held and then recalled, with units in a STORE bin."""
+        found = {}
+        for (gtin, lot, place), qty in sorted(self.stock.items()):
+            if qty > 1 and place in STORE and self.is_free((gtin, lot)) and gtin not in {one[0] for one in found}:
+                found[gtin, lot] = place
+        first, second, third, fourth = list(found)[:4]
+        self.order("CUT", CUSTOMERS[0], {first[0]: 2}, True)
+        lot = next(line.split(" ")[1] for line in self.get("/picklists/CUT")[1].splitlines() if line.startswith("TAKE"))
+        place = next(at for (gtin, one, at), qty in sorted(self.stock.items()) if (gtin, one) == (first[0], lot) and qty and at in STORE)
+        self.pick_units("AB1", "CUT", (first[0], lot), place, 1)
+        self.ship("CUT")
+        self.cancel("CUT")
+        self.adjust("CD2", second, found[second], 2)
+        self.hold(second)
+        self.adjust("CD2", second, found[second], -1)
+        self.held.discard(second)
+        self.of_lot("/releases", "RELEASE", second)
+        self.adjust("CD2", second, found[second], -1)
+        self.hold(third)
+        self.hold(fourth)
+        self.recall(fourth)
 
     def works(self, number):
         """A business day."""
