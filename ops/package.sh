@@ -43,17 +43,18 @@ unit() {
         sed "/^#   systemctl daemon-reload/d; s| Put it into /etc/systemd/system, then:\$| As root: systemctl enable --now $1|" >"$root/usr/lib/systemd/system/$1.service"
 }
 
-for it in lotd lotd-standby lotd-day lotd-backup lotd-metrics; do unit "$it"; done
+for it in lotd lotd-standby lotd-day lotd-backup lotd-metrics lotd-reports; do unit "$it"; done
 replaced ops/lotd-port.service /usr/local/share/lotd /usr/share/lotd >"$root/usr/lib/systemd/system/lotd-port.service"
 install -m 644 ops/lotd-restart.service ops/lotd-alert@.service ops/lotd-again@.service ops/lotd-*.timer "$root/usr/lib/systemd/system/"
 install -D -m 755 ops/lotd-generator "$root/usr/lib/systemd/system-generators/lotd-generator"
-install -m 755 ops/lotd-day ops/lotd-backup ops/lotd-metrics ops/lotd-user "$root/usr/bin/"
+install -m 755 ops/lotd-day ops/lotd-backup ops/lotd-metrics ops/lotd-reports ops/lotd-letters ops/lotd-user "$root/usr/bin/"
 replaced ops/lotd-proxy /usr/local/share/lotd /usr/share/lotd >"$root/usr/bin/lotd-proxy"
 chmod 755 "$root/usr/bin/lotd-proxy"
 install -m 644 ops/nginx.conf ops/lotd.nft "$shared/"
 replaced ops/nginx-lotd.conf /usr/local/share/lotd /usr/share/lotd | sed '/^#   install -d/d; s/, readable by all:$/./' >"$shared/nginx-lotd.conf"
 install -m 644 trials/wire.txt "$documents/examples/"
-cp -r ops/page "$shared/"
+cp -r ops/page ops/reports "$shared/"
+install -m 644 ops/openapi.yaml "$documents/"
 cp -r README.md docs "$documents/"
 install -m 644 ops/copyright ops/README.Debian "$documents/"
 install -D -m 644 ops/lotd.bash "$root/usr/share/bash-completion/completions/lotd"
@@ -94,8 +95,8 @@ Architecture: $arch
 Maintainer: $maintainer
 Installed-Size: $(du -sk "$root/usr" | cut -f 1)
 Depends: $depends, curl, nftables, passwd
-Recommends: logrotate, nginx, openssl
-Suggests: bash-completion, openssh-client, sqlite3
+Recommends: logrotate, nginx, openssl, sqlite3 (>= 3.38)
+Suggests: bash-completion, openssh-client
 Section: misc
 Priority: optional
 Description: stock system of a food wholesaler's warehouse
@@ -105,7 +106,7 @@ Description: stock system of a food wholesaler's warehouse
  for a proxy on the same machine to hand out.
 CONTROL
 # What was enabled before a removal is enabled behind the next installation, as Debian's own packages do it.
-enabled="lotd.service lotd-standby.service lotd-day.timer lotd-backup.timer lotd-restart.timer lotd-metrics.timer"
+enabled="lotd.service lotd-standby.service lotd-day.timer lotd-backup.timer lotd-restart.timer lotd-metrics.timer lotd-reports.timer"
 # script NAME: the maintainer script of this name, of standard input
 script() {
     sed "s|@ENABLED@|$enabled|" >"$root/DEBIAN/$1"

@@ -62,6 +62,7 @@ def proxy_file(room, tls, port):
         ("alias /var/lib/lotd-day/", "alias %s/state/" % room),
         ("alias /var/lib/lotd-backup/", "alias %s/state/" % room),
         ("alias /var/lib/lotd-metrics/", "alias %s/state/" % room),
+        ("alias /var/lib/lotd-reports/", "alias %s/reports/" % room),
         ("root /usr/local/share/lotd", "root %s/shared" % room))
     kept = "".join("    %s_temp_path %s/%s;\n" % (it, room, it) for it in ("client_body", "proxy", "fastcgi", "uwsgi", "scgi"))
     return placed("nginx.conf", room, ("    include /etc/nginx/conf.d/lotd.conf;", kept + "    include %s;" % own))

@@ -73,7 +73,7 @@ package=$(sh ops/package.sh)
 if [ -n "${ROOT:-}" ]; then
     cp -a "$ROOT" "$root"
 else
-    debootstrap --variant=minbase --include=nginx,openssl,curl,systemd,systemd-sysv,dbus,nftables,logrotate,iproute2,man-db "$(sed -n 's/^VERSION_CODENAME=//p' /etc/os-release)" "$root" >"$room/log" ||
+    debootstrap --variant=minbase --include=nginx,openssl,curl,systemd,systemd-sysv,dbus,nftables,logrotate,iproute2,man-db,sqlite3 "$(sed -n 's/^VERSION_CODENAME=//p' /etc/os-release)" "$root" >"$room/log" ||
         { tail -5 "$room/log" >&2; exit 1; }
 fi
 cp "$package" "$root/lotd.deb"
@@ -83,7 +83,7 @@ expect "the folder" "lotd lotd 700" "$(within stat -c '%U %G %a' /var/lib/lotd)"
 expect "the user's shell" /usr/sbin/nologin "$(within getent passwd lotd | cut -d: -f7)"
 expect "whether all files are as they were made" "" "$(within dpkg -V lotd)"
 expect "the list of what changed" "lotd ($(within dpkg-query -W -f '${Version}' lotd)) unstable; urgency=medium" "$(within zcat /usr/share/doc/lotd/changelog.gz | head -1)"
-expect "the man pages" "lotd.1 lotd-backup.8 lotd-day.8 lotd-metrics.8 lotd-proxy.8 lotd-user.8" \
+expect "the man pages" "lotd.1 lotd-backup.8 lotd-day.8 lotd-letters.8 lotd-metrics.8 lotd-proxy.8 lotd-reports.8 lotd-user.8" \
     "$(within sh -c 'cd /usr/share/man && ls man1 man8 | sed -n "s/^\(lotd.*\)\.gz$/\1/p" | tr "\n" " " | sed "s/ $//"')"
 expect "a code in the man page" "Q04 From and to are the same bin" "$(within sh -c 'man lotd 2>/dev/null | grep -o "Q04 .*" | tr -s " "')"
 expect "the copyright" "No licence has been given." "$(within tail -n 1 /usr/share/doc/lotd/copyright)"
@@ -91,7 +91,7 @@ if command -v lintian >/dev/null; then
     expect "errors and warnings of lintian" "" "$(lintian --allow-root "$package" | grep '^[EW]:' || true)"
     echo "  lintian has no error and no warning"
 fi
-for unit in lotd lotd-standby lotd-restart lotd-day lotd-backup lotd-metrics lotd-port lotd-alert@ lotd-again@; do
+for unit in lotd lotd-standby lotd-restart lotd-day lotd-backup lotd-metrics lotd-reports lotd-port lotd-alert@ lotd-again@; do
     if command -v systemd-analyze >/dev/null; then
         # Of a template the instance for the server.
         file=$(echo "$unit.service" | sed 's/@/@lotd.service/')

@@ -3,7 +3,7 @@
 # trials/package.sh makes it, whose books are made anew; it is booted as a container without a network of its own, and all is asked
 # within. The day is opened, opened again, opened once a server that was down is up, and where somebody has used its key; books of a
 # year ago are brought to today; a copy is made and audited, by the file of the acts too, by which nothing is stopped; old copies
-# go; a night without books, and one whose books are damaged, are failures, and the server runs behind each; so it does where the
+# go; reports are made of the newest; a night without books, and one whose books are damaged, are failures, and the server runs behind each; so it does where the
 # copy is killed, and while the folder of the copies does not answer; a server that cannot start has failed, tells it, and goes on
 # by itself; who reaches the port; what is exposed of the units; metrics; the proxy's log and its rotation; a server that has just
 # begun is not started anew; timers that are missed by night come with the next boot; a removal, and an installation behind it.
@@ -274,12 +274,20 @@ expect "the log behind its rotation" "1 access.log access.log-$(within date +%Y%
     "$(wc -l <"$root/var/log/lotd/access.log") $(within ls /var/log/lotd | tr '\n' ' ')$(within stat -c %a /var/log/lotd/access.log /var/log/lotd | tr '\n' ' ' | sed 's/ $//')"
 echo "  the proxy's log has who received, as JSON, and is rotated"
 
+# The reports.
+expect "the reports" success "$(run lotd-reports)"
+expect "who may read them" "lotd www-data 750" "$(within stat -c '%U %G %a' /var/lib/lotd-reports/now)"
+expect "the page of the reports" "200 text/html; charset=utf-8" \
+    "$(through -o /dev/null -w '%{http_code} %{content_type}' https://localhost:8443/reports/)"
+expect "what is left beside them" 0 "$(within sh -c 'ls /var/tmp | grep -c lotd-reports || true')"
+echo "  reports: made of the newest copy, handed out by the proxy"
+
 # The start anew, and what comes late.
 within systemctl start lotd
 before=$(within systemctl show -P MainPID lotd)
 run lotd-restart >/dev/null
 expect "a server that has just begun" "$before" "$(within systemctl show -P MainPID lotd)"
-for timer in day backup restart metrics; do
+for timer in day backup restart metrics reports; do
     within systemctl enable --now "lotd-$timer.timer" >/dev/null 2>&1
     expect "the timer of $timer" active "$(within systemctl is-active "lotd-$timer.timer")"
 done
