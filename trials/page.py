@@ -537,7 +537,7 @@ STEPS = [has_all_words, page_looks.signs_on, makes_items_and_bins, takes_goods_i
          page_labels.takes_best_before, page_asks.asks_little, page_asks.names_cost_little, page_language.speaks_german, page_axe.is_accessible, acts_once, shows_again, outlasts_a_password,
          goes_on_offline, is_shut, is_shut_to_other_sites, bars_names, page_looks.shows_home, page_looks.fits_all_screens, counts_and_writes_off,
          page_looks.gives_back, opens_the_day, page_lists.counts_from_the_business_day, has_all_words, page_away.reads_by_camera,
-         page_away.opens_without_network, outlasts_a_dead_battery]
+         page_away.asks_for_the_password, page_away.opens_without_network, outlasts_a_dead_battery]
 
 subprocess.run([lotd, "init", "--db", DB, "--day", DAY], check=True)
 started = None

@@ -31,6 +31,7 @@ def is_accessible():
     if not axe:
         print("  -- this browser brings no axe-core: its rules are not tried", flush=True)
         return
+    browser.page.set_script_timeout(300)
     faults, count = set(), 0
     for where in ("", "in", "pick", "pick/S-2", "moves", "counts", "lot/%s/L2" % OAT, "lot/%s/L3" % OAT, "order", "order/S-2", "new", "item/" + OAT, "items", "bins", "days", "bin/A-01",
                   "expiring/60", "labels", "sheets/A-01/A-02", "carry/A-01", "by file/items", "state", "outbox", "device"):

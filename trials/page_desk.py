@@ -18,7 +18,7 @@ def fills():
         done("/items", key="DK-I%d" % number, gtin=gtin, name=name)
     for bin in ("P-01", "P-02", "P-09"):
         done("/bins", key="DK-" + bin, bin=bin, kind="STORE")
-    for line, gtin, lot, days, bin, qty in ((1, RICE, "R1", 40, "P-01", 30), (2, RICE, "R2", 80, "P-02", 20), (3, SALT, "N1", 90, "P-01", 50)):
+    for line, gtin, lot, days, bin, qty in ((1, RICE, "RICE1", 40, "P-01", 30), (2, RICE, "RICE2", 80, "P-02", 20), (3, SALT, "SALT1", 90, "P-01", 50)):
         done("/receipts", delivery="DESK", line=line, label=label(lot, days, gtin), bin=bin, qty=qty)
     for order, customer, rice, salt in (("D-ONE", "First House", 10, 5), ("D-TWO", "Second House", 25, 7)):
         done("/urgents", key="DK-" + order, order=order, customer=customer, lines=[{"gtin": RICE, "qty": rice}, {"gtin": SALT, "qty": salt}])
@@ -47,12 +47,12 @@ def tells_a_late_day():
 
 def takes_scans_anywhere():
     """A scan on a screen that asks for nothing is taken as home takes it."""
-    for where in ("bin/P-01", "lot/%s/R1" % RICE, "order/D-ONE", "state", "outbox", "expiring", "item/" + RICE):
+    for where in ("bin/P-01", "lot/%s/RICE1" % RICE, "order/D-ONE", "state", "outbox", "expiring", "item/" + RICE):
         go(where)
         until("the screen", lambda: text("main") != "")
         time.sleep(0.3)
-        scan(label("N1", 90, SALT))
-        until("a lot by a scan on " + where, lambda: text("#title") == "Lot N1" and "Salt 1 kg" in text("main"))
+        scan(label("SALT1", 90, SALT))
+        until("a lot by a scan on " + where, lambda: text("#title") == "Lot SALT1" and "Salt 1 kg" in text("main"))
     go("expiring")
     run("document.getElementById('until').focus()")
     scan("P-02")
@@ -60,12 +60,12 @@ def takes_scans_anywhere():
     go("pick")
     until("the orders", lambda: "First House" in text("main"))
     is_told("a field above the list", True, run("return document.querySelector('.rows').getBoundingClientRect().top") < 230)
-    scan(label("N1", 90, SALT))
+    scan(label("SALT1", 90, SALT))
     go("item/" + RICE)
     until("what holds now", lambda: "Now: any lot that has not expired" in text("main"))
     by_hand("400")
     time.sleep(0.5)
-    is_told("a number that is typed where nothing is asked", ("", "FREE"), (entered()["days"], lots_of(RICE)["R1"]["status"]))
+    is_told("a number that is typed where nothing is asked", ("", "FREE"), (entered()["days"], lots_of(RICE)["RICE1"]["status"]))
     one("[name=days]").click()
     by_hand("5")
     is_told("what is asked", True, "Now: 0" in text("dialog"))
@@ -76,7 +76,7 @@ def takes_scans_anywhere():
 
 def counts_cases():
     go("moves")
-    scan(label("R2", 80, RICE))
+    scan(label("RICE2", 80, RICE))
     until("where it lies", lambda: "P-02" in text(".about") and "20" in text(".about"))
     scan("P-02")
     scan("P-09")
@@ -84,16 +84,16 @@ def counts_cases():
     until("what it makes", lambda: "2 × 3 = 6" in text("main"))
     is_fit("move")
     enter()
-    until_told("Moved 6 of R2 (Rice 5 kg) from P-02 to P-09")
+    until_told("Moved 6 of RICE2 (Rice 5 kg) from P-02 to P-09")
     go("counts")
-    scan(label("R2", 80, RICE))
+    scan(label("RICE2", 80, RICE))
     scan("P-02")
     by_hand("1,0000")
     until_told("Units found: a whole number from 0 to 1,000,000, or cases as 12x24", "refused")
     one("[name=found]").clear()
     one("[name=found]").click()
     by_hand("14")
-    until_told("Counted 14 of R2")
+    until_told("Counted 14 of RICE2")
     go("days")
     until("the day in words", lambda: str(time.localtime().tm_year) in text("form") and time.strftime("%A") in text("form"))
     passed("12x24 in a quantity, shown as it is typed; where an item lies, on Move; the day in words")
@@ -110,7 +110,7 @@ def walks_for_several():
     until("one list", lambda: text("#title") == "Pick 2 orders" and len(every(".take")) == 5)
     is_told("by bin", ["P-01", "P-01", "P-01", "P-01", "P-02"], [it.text.split("\n")[0].split(" ")[0] for it in every(".take")])
     is_fit("walk")
-    for lot, days, gtin, bin, qty, order in (("N1", 90, SALT, "P-01", 5, "D-ONE"), ("N1", 90, SALT, "P-01", 7, "D-TWO"), ("R1", 40, RICE, "P-01", 10, "D-ONE"), ("R1", 40, RICE, "P-01", 20, "D-TWO")):
+    for lot, days, gtin, bin, qty, order in (("SALT1", 90, SALT, "P-01", 5, "D-ONE"), ("SALT1", 90, SALT, "P-01", 7, "D-TWO"), ("RICE1", 40, RICE, "P-01", 10, "D-ONE"), ("RICE1", 40, RICE, "P-01", 20, "D-TWO")):
         scan(label(lot, days, gtin))
         until("the lot", lambda: entered()["lot"] == lot and entered()["qty"] == str(qty))
         scan(bin)
@@ -121,14 +121,14 @@ def walks_for_several():
         until("the next", lambda: len(every(".take")) < 5 and entered()["lot"] == "")
         time.sleep(0.3)
     staged = {order: {(line["gtin"], it["lot"]): it["qty"] for line in json.loads(asked("/orders/" + order)[1])["lines"] for it in line["staged"]} for order in ("D-ONE", "D-TWO")}
-    is_told("each act is its order's", {"D-ONE": {(SALT, "N1"): 5, (RICE, "R1"): 10}, "D-TWO": {(SALT, "N1"): 7, (RICE, "R1"): 20}}, staged)
+    is_told("each act is its order's", {"D-ONE": {(SALT, "SALT1"): 5, (RICE, "RICE1"): 10}, "D-TWO": {(SALT, "SALT1"): 7, (RICE, "RICE1"): 20}}, staged)
     passed("two orders in one walk through the bins: the lots of one bin behind one another, each act one order's")
 
 
 def moves_a_bin():
     before = {it["lot"]: it["qty"] for it in json.loads(asked("/bins/P-01")[1])["lots"]}
-    is_told("what is left there", {"N1": 38}, before)
-    done("/receipts", delivery="DESK", line=9, label=label("R9", 70, RICE), bin="P-01", qty=4)
+    is_told("what is left there", {"SALT1": 38}, before)
+    done("/receipts", delivery="DESK", line=9, label=label("RICE9", 70, RICE), bin="P-01", qty=4)
     go("bin/P-01")
     until("its lots", lambda: len(every(".lines > li")) == 2)
     [it for it in every("main a.button") if it.text == "Move all of it"][0].click()
@@ -139,10 +139,10 @@ def moves_a_bin():
     press("Move all of it", "dialog")
     until("the other bin", lambda: text("#title") == "Bin P-09")
     until_answered()
-    is_told("both lots are there", ({"N1": 38, "R9": 4, "R2": 6}, []), ({it["lot"]: it["qty"] for it in json.loads(asked("/bins/P-09")[1])["lots"]}, json.loads(asked("/bins/P-01")[1])["lots"]))
+    is_told("both lots are there", ({"SALT1": 38, "RICE9": 4, "RICE2": 6}, []), ({it["lot"]: it["qty"] for it in json.loads(asked("/bins/P-09")[1])["lots"]}, json.loads(asked("/bins/P-01")[1])["lots"]))
     go("sheets/P-01/P-09")
     until("the sheets of the bins that there are", lambda: [it.text for it in every(".counted h2")] == ["P-01", "P-02", "P-09"])
-    is_told("no count is told", True, "38" not in text(".counted:last-child") and "N1" in text(".counted:last-child"))
+    is_told("no count is told", True, "38" not in text(".counted:last-child") and "SALT1" in text(".counted:last-child"))
     is_fit("sheets")
     is_printed("sheets", ["#title", ".counted", ".blank"], ["form", "nav", "header", ".pair"])
     passed("a bin moved whole, each lot by an act of its own; count sheets of a row of bins, printed without the counts")
@@ -184,9 +184,9 @@ HTMLAnchorElement.prototype.click = function () { window.named = this.download }
 def hands_out_files():
     browser.size(*browser.DESK)
     done("/urgents", key="DF-1", order="D-SUM", customer="=SUM(A1)", lines=[{"gtin": RICE, "qty": 1}])
-    for where, name, head, has in (("order", "open-orders", "order,customer,class,ordered,shipped,picked,to pick,short", "'=SUM(A1)"), ("bin/P-09", "bin-P-09", "bin,gtin,name,lot,expiry,status,units", "P-09,%s,Salt 1 kg,N1," % SALT),
-                                   ("expiring/60", "expiring", "expiry,gtin,name,lot,status,bins,units,promised,picked", "Rice 5 kg,R1"), ("item/" + SALT, "item-" + SALT, "gtin,name,lot,expiry,status,bin,units", "N1"),
-                                   ("lot/%s/N1" % SALT, "lot-%s-N1" % SALT, "act,day,what,of,units,left", "RECEIPT,DESK/3,50,50"), ("order/D-TWO", "order-D-TWO", "order,customer,gtin,name,ordered,shipped,picked,to pick,short", "D-TWO,Second House,%s,Rice 5 kg,25" % RICE)):
+    for where, name, head, has in (("order", "open-orders", "order,customer,class,ordered,shipped,picked,to pick,short", "'=SUM(A1)"), ("bin/P-09", "bin-P-09", "bin,gtin,name,lot,expiry,status,units", "P-09,%s,Salt 1 kg,SALT1," % SALT),
+                                   ("expiring/60", "expiring", "expiry,gtin,name,lot,status,bins,units,promised,picked", "Rice 5 kg,RICE1"), ("item/" + SALT, "item-" + SALT, "gtin,name,lot,expiry,status,bin,units", "SALT1"),
+                                   ("lot/%s/SALT1" % SALT, "lot-%s-SALT1" % SALT, "act,day,what,of,units,left", "RECEIPT,DESK/3,50,50"), ("order/D-TWO", "order-D-TWO", "order,customer,gtin,name,ordered,shipped,picked,to pick,short", "D-TWO,Second House,%s,Rice 5 kg,25" % RICE)):
         go(where)
         until("the list of " + where, lambda: every("main li, main td") and [it for it in every("main button") if it.text == "As a file (CSV)" and it.is_enabled()])
         time.sleep(0.3)

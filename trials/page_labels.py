@@ -24,7 +24,7 @@ SYMBOLS = [
     [("02", BEANS), ("17", "270331"), ("37", "48"), ("10", "P7")],
     [("02", BEANS), ("37", "48"), ("17", "270300"), ("10", "P8"), ("400", "ORDER-1")],
     [("00", "195060000000000005"), ("02", BEANS), ("17", "270331"), ("37", "12"), ("10", "C3")],
-    [("01", BEANS), ("17", "270331"), ("7003", "2703311200"), ("10", "T1"), ("8008", "26110112"), ("91", "OWN-DATA")],
+    [("01", BEANS), ("17", "270331"), ("7003", "2703311200"), ("10", "TOM1"), ("8008", "26110112"), ("91", "OWN-DATA")],
     [("01", BEANS), ("17", "270331"), ("30", "12"), ("10", "+1&(2)"), ("251", "SRC"), ("7030", "276ABATTOIR")],
     [("01", BEANS), ("17", "270331"), ("10", "L" * 20), ("410", "9506000000008"), ("421", "27610115"), ("8200", "example.com")],
 ]
@@ -142,7 +142,7 @@ def tells_doubts():
     until("what is not sent", lambda: "(3102) kilograms 12.50" in text(".about"))
     scan("L-01")
     by_hand("3")
-    until_told("Received 3 of W1 (Beans)")
+    until_told("Received 3 of WGT1 (Beans)")
     scan("]d202%s17%s3748%s10P1%s400PO-9" % (BEANS, day, GS, GS))
     until("the units within", lambda: entered()["qty"] == "48" and "(400) order PO-9" in text(".about"))
     is_fit("within")
@@ -151,10 +151,10 @@ def tells_doubts():
     time.sleep(0.25)
     browser.enter()
     until_told("Received 48 of P1 (Beans)")
-    is_told("what came", ({"W1": 3, "P1": 48}), {lot: it["bins"][0]["qty"] for lot, it in lots_of(BEANS).items()})
+    is_told("what came", ({"WGT1": 3, "P1": 48}), {lot: it["bins"][0]["qty"] for lot, it in lots_of(BEANS).items()})
     go("counts")
     scan("]C111%s01%s17%s21SERIAL%s10W1" % (MADE, BEANS, day, GS))
-    until("a label with more, on any form", lambda: entered()["gtin"] == BEANS and entered()["lot"] == "W1")
+    until("a label with more, on any form", lambda: entered()["gtin"] == BEANS and entered()["lot"] == "WGT1")
     passed("two items, an item within without its count, a weight, best before: told at the scan, and nothing is guessed; the units within are filled in")
 
 
