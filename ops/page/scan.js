@@ -3,11 +3,11 @@
 import { GS, isLabel } from "./label.js";
 import { setting } from "./kept.js";
 
-const GAP = 400, TWICE = 200;  // ms after which a key begins something new; within which a second Enter is none
+const GAP = 400, STALL = 3000, TWICE = 200;  // ms after which a key begins something new, also behind a `]`, with which a scan alone begins; within which a second Enter is none
 let typed = "", before = "", last = 0, slowest = 0, ended = 0, isFast = false, isAtOnce = false;
 
 function key(field, text, now) {
-  if (!typed || now - last > GAP) { typed = ""; before = field.value; slowest = 0; } else slowest = Math.max(slowest, now - last);
+  if (!typed || now - last > (typed.startsWith("]") ? STALL : GAP)) { typed = ""; before = field.value; slowest = 0; } else slowest = Math.max(slowest, now - last);
   last = now;
   typed += text;
 }
@@ -28,7 +28,7 @@ let loose = "", gaps = 0;                       // what is typed while no field 
 /** A key where no field has the focus: gathered, and told at its Enter where it is a label or came as fast as a scanner types. */
 function astray(event, isPlain, take) {
   const now = event.timeStamp;
-  if (now - last > GAP) { loose = ""; gaps = 0; } else if (loose && now - last >= 40) gaps += 1;
+  if (now - last > (loose.startsWith("]") ? STALL : GAP)) { loose = ""; gaps = 0; } else if (loose && now - last >= 40) gaps += 1;
   last = now;
   if (isPlain || isSeparator(event)) loose += isPlain ? event.key : GS;
   else if (event.key === "Enter" && loose.length > 2) {

@@ -19,7 +19,7 @@ export function pick(...ids) {
   const head = tag("section", { class: "about" }), first = tag("section"), list = tag("section", { class: "takes" });
   const it = form({
     names: ["lot", "bin", "qty"], button: say`Pick`,
-    label: (text, found) => choose(found.lot, found.gtin),
+    label: (text, found) => (found.lot ? choose(found.lot, found.gtin) : refuse(found.doubt || say`This label has no item and lot`)),
     warn: (name, value) => (name === "bin" && !isBack && chosen?.from.every(({ bin }) => bin !== value)
       ? [say`${value} had none of this lot to sell`, say`It lies in ${chosen.from.map(({ bin }) => bin).join(", ")}. Scan ${value} once more if you mean it`] : null),
     async done({ lot, bin, qty }) {
