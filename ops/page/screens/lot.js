@@ -12,7 +12,7 @@ const CAN = { FREE: ["holds", "recalls"], SHORTDATED: ["holds", "recalls"], EXPI
   RECALLED: [], NONE: ["recalls"] };
 const table = (head, rows, kind = "", blank = []) => tag("table", { class: kind },
   tag("thead", {}, tag("tr", {}, head.map(it => tag("th", { scope: "col" }, it)), blank.map(it => tag("th", { scope: "col", class: "paper" }, it)))),
-  tag("tbody", {}, rows.map(row => tag("tr", {}, row.map(it => tag("td", {}, it)), blank.map(() => tag("td", { class: "paper blank" }))))));
+  tag("tbody", {}, rows.map(row => tag("tr", {}, row.map((it, at) => tag("td", at ? {} : { "data-is": head[0] }, it)), blank.map(() => tag("td", { class: "paper blank" }))))));
 /** What a line of a stock card is. */
 const KINDS = { RECEIPT: say`received`, SHIPMENT: say`shipped`, WRITEON: say`written on`, WRITEOFF: say`written off` };
 
