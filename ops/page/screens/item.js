@@ -52,5 +52,5 @@ export function item(gtin) {
       holds.textContent = held ? say`Now: a lot must have ${counted(held, "day")}` : say`Now: any lot that has not expired`;
     }
   }
-  return { title: say`An item`, form: least, refresh, follows: true, node: tag("div", { class: "item" }, view, list, tag("div", { class: "side" }, shorts, least.node, save)) };
+  return { title: say`An item`, form: least, refresh, follows: true, node: tag("div", { class: "item" }, tag("div", {}, view, save), list, tag("div", { class: "side" }, shorts, least.node)) };
 }
