@@ -81,6 +81,7 @@ def names_cost_little():
     go("order")
     until("the first hundred", lambda: len(every(".rowed")) == 100)
     before = len(logged())
+    run("scrollTo(0, document.body.scrollHeight)")
     press("More")
     until("more of them", lambda: len(every(".rowed")) > 100)
     is_told("requests for More", 1, len(since(before, "openorders")))

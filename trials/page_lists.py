@@ -59,6 +59,7 @@ def shows_open_orders():
     until("those that wait for their shipment", lambda: "W-URGENT" in text("main") and "W-SOON" not in text("main"))
     [it for it in every(".tabs button") if it.text.startswith("All")][0].click()
     until("all of the first answer", lambda: len(every(".rowed")) == 100)
+    run("scrollTo(0, document.body.scrollHeight)")
     press("More")
     until("and those behind", lambda: len(every(".rowed")) > 110)
     is_told("none stands twice", len(every(".rowed")), len({it.get_attribute("href") for it in every(".rowed")}))
