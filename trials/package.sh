@@ -50,6 +50,7 @@ through() {
 }
 
 serve() {
+    : >"$room/told"
     chroot "$root" setpriv --reuid lotd --regid lotd --init-groups lotd serve --db /var/lib/lotd/stock.db --port "$port" --max 1000000 >"$room/told" &
     server=$!
     for _ in $(seq 100); do
