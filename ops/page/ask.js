@@ -1,6 +1,6 @@
 // What lotd shows, read: its JSON, and its texts as records.
 import { delay, refusal } from "./words.js";
-import { set, setting } from "./kept.js";
+import { say } from "./say.js";
 
 const LONGEST = 15000;                         // ms for an answer
 
@@ -11,14 +11,18 @@ export class Refused extends Error {
 /** Nothing that lotd said came. */
 export class NoAnswer extends Error {}
 
+/** How many requests this page has sent. */
+export const asked = { count: 0 };
+
 /** One request, and what came: its status, type and text. */
 export async function request(path, options) {
   const stop = new AbortController(), late = setTimeout(() => stop.abort(), LONGEST);
+  asked.count += 1;
   try {
     const answer = await fetch(location.origin + path, { cache: "no-store", redirect: "error", signal: stop.signal, ...options });
     return { status: answer.status, type: answer.headers.get("content-type") ?? "", text: await answer.text() };
   } catch (fault) {
-    throw new NoAnswer(fault.name === "AbortError" ? "No answer yet" : "No connection");
+    throw new NoAnswer(fault.name === "AbortError" ? say`No answer yet` : say`No connection`);
   } finally { clearTimeout(late); }
 }
 
@@ -39,6 +43,9 @@ export async function get(...parts) {
   if (told?.code && status < 500) throw new Refused(told);
   throw new NoAnswer(delay(status, text));
 }
+
+/** Nothing where lotd refused to show it. */
+export const orNone = wanted => wanted.catch(fault => { if (fault instanceof Refused) return null; throw fault; });
 
 const nameIn = line => /^[A-Z ]+? \d{14} (.*)$/.exec(line)[1];
 const lines = text => text.split("\n").slice(0, -1);
@@ -79,20 +86,10 @@ export async function notice(gtin, lot) {
   return { bins: found(/^BIN (\S+) (\d+)$/), shipments: found(/^SHIPMENT (\d+) (\S+) (\d+) (\S+) (.*)$/), inBins, shipped };
 }
 
-/** What a timer of the server left beside lotd, of the "day" or of the "copy"; null where nothing did. */
+/** What the proxy hands out beside lotd under this name, of a timer of the server ("day", "copy") or of the house; null where nothing is. */
 export async function told(name) {
   const { status, type, text } = await request(`/state/${name}.json`);
   if (status === 404) return null;
   if (status === 200 && type.startsWith("application/json")) return JSON.parse(text);
   throw new NoAnswer(delay(status, text));
-}
-
-/** A lot with its item's name, where that was read before. */
-export const lotWords = (lot, gtin) => [lot, setting("name/" + gtin) && `(${setting("name/" + gtin)})`].filter(Boolean).join(" ");
-
-/** The name of an item, which never changes; "" while it is not known. */
-export async function nameOf(gtin) {
-  let name = setting("name/" + gtin);
-  if (!name) try { name = (await shortages(gtin)).name; set("name/" + gtin, name); } catch { return ""; }
-  return name;
 }
