@@ -85,6 +85,6 @@ what_a_recall_brings_back_is_in_returns : figures_shown may_4 (keyed (codes "K-R
 what_a_recall_brings_back_is_in_returns = refl
 
 -- the units in RETURNS are those of all lots; what lies in another HOLD bin is in the house alone
-returns_has_units_of_all_lots : figures_shown may_4 (keyed (codes "K-R2") (Recall L0) ∷ keyed (codes "K-R") (Recall L2) ∷ keyed (codes "K-V") (move L1 A1 Q1 2) ∷ with_picks)
+returns_has_units_of_all_lots : figures_shown may_4 (keyed (codes "K-S") (Recall L0) ∷ keyed (codes "K-R") (Recall L2) ∷ keyed (codes "K-V") (move L1 A1 Q1 2) ∷ with_picks)
     ≡ figures 15 may_4 (lot_count 0 0 2) (order_count 2 2 0 0) (units 25 12)
 returns_has_units_of_all_lots = refl
