@@ -1,8 +1,10 @@
 """The page of `ops/page` in a real browser, behind the proxy of `ops/nginx-lotd.conf` with its ports and files elsewhere: the way of
 a lot from goods in to the recall notice, by scanned labels; answers that are lost, a server that is killed, 503, a page of
 another server, a server that is silent, a closed and a killed browser, no network, two windows: each act stands once; what is
-refused, in words, for every code of the documents; lots and names with marks; requests of other origins; small and large.
-Needs the Rattle kit and Debian's nginx, openssl, chromium, chromium-driver and python3-selenium, and takes three minutes.
+refused, in words, for every code of the documents; lots and names with marks; requests of other origins; small and large; labels of the
+trade; what a screen asks; German; axe-core's rules; a page without proxy and network.
+Needs the Rattle kit and Debian's nginx, openssl, chromium, chromium-driver and python3-selenium, and takes about ten minutes. Symbols are
+tried where zint and zxing-cpp-tools are there, and axe-core's rules where the browser's DevTools bring them; else a line says that they were not.
 It has four ports from PORT on. SHOTS names a folder for pictures of the screens.
 Exit status 0 only if all was as expected, and 3 where nginx, the browser or selenium is not there.
 """
