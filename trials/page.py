@@ -285,7 +285,7 @@ def shows_lots():
     until_told("Recall: L3 of Oat drink")
     until("the notice", lambda: "Recall notice: 5 in bins, 3 shipped" in text("main") and "Corner Shop & <Sons>" in text("main"))
     is_fit("recalled")
-    is_printed("notice", [".lot", "#title", "#paper"], ["form", "nav", "header", ".pair"])
+    is_printed("notice", [".lot", "#title", "#paper", ".noticed", ".calls td.blank"], ["form", "nav", "header", ".pair"])
     is_told("what can still be done with it", [], can_be_done())
     go("item/" + OAT)
     until("the item", lambda: "Oat drink" in text("main"))
