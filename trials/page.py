@@ -1,9 +1,10 @@
 """The page of `ops/page` in a real browser, behind the proxy of `ops/nginx-lotd.conf` with its ports and files elsewhere: the way of
 a lot from goods in to the recall notice, by scanned labels; answers that are lost, a server that is killed, 503, a page of
 another server, a server that is silent, a closed and a killed browser, no network, two windows: each act stands once; what is
-refused, in words, for every code of the documents; lots and names with marks; requests of other origins; small and large; and the
-house of `sh demo.sh page`.
-Needs the Rattle kit and Debian's nginx, openssl, chromium, chromium-driver and python3-selenium, and takes three minutes.
+refused, in words, for every code of the documents; lots and names with marks; requests of other origins; small and large; labels of the
+trade; what a screen asks; German; axe-core's rules; a page without proxy and network; and the house of `sh demo.sh page`.
+Needs the Rattle kit and Debian's nginx, openssl, chromium, chromium-driver and python3-selenium, and takes about ten minutes. Symbols are
+tried where zint and zxing-cpp-tools are there, and axe-core's rules where the browser's DevTools bring them; else a line says that they were not.
 It has five ports from PORT on. SHOTS names a folder for pictures of the screens.
 Exit status 0 only if all was as expected, and 3 where nginx, the browser or selenium is not there.
 """
@@ -285,7 +286,7 @@ def shows_lots():
     until_told("Recall: L3 of Oat drink")
     until("the notice", lambda: "Recall notice: 5 in bins, 3 shipped" in text("main") and "Corner Shop & <Sons>" in text("main"))
     is_fit("recalled")
-    is_printed("notice", [".lot", "#title", "#paper"], ["form", "nav", "header", ".pair"])
+    is_printed("notice", [".lot", "#title", "#paper", ".noticed", ".calls td.blank"], ["form", "nav", "header", ".pair"])
     is_told("what can still be done with it", [], can_be_done())
     go("item/" + OAT)
     until("the item", lambda: "Oat drink" in text("main"))

@@ -137,7 +137,7 @@ def tells_doubts():
         until_told(words, "refused")
         is_told("where the cursor stands", "label", browser.page.switch_to.active_element.get_attribute("name"))
     is_fit("best-before")
-    scan("]C101%s310200125017%s10W1" % (BEANS, day))
+    scan("]C101%s310200125017%s10WGT1" % (BEANS, day))
     until_told("The label has a weight: count the units", "wait")
     until("what is not sent", lambda: "(3102) kilograms 12.50" in text(".about"))
     scan("L-01")
@@ -153,7 +153,7 @@ def tells_doubts():
     until_told("Received 48 of P1 (Beans)")
     is_told("what came", ({"WGT1": 3, "P1": 48}), {lot: it["bins"][0]["qty"] for lot, it in lots_of(BEANS).items()})
     go("counts")
-    scan("]C111%s01%s17%s21SERIAL%s10W1" % (MADE, BEANS, day, GS))
+    scan("]C111%s01%s17%s21SERIAL%s10WGT1" % (MADE, BEANS, day, GS))
     until("a label with more, on any form", lambda: entered()["gtin"] == BEANS and entered()["lot"] == "WGT1")
     passed("two items, an item within without its count, a weight, best before: told at the scan, and nothing is guessed; the units within are filled in")
 

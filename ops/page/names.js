@@ -7,6 +7,7 @@ import { books, itemNames, read, readOn } from "./lists.js";
 const MOST = 10;                               // parts that the items of a house have
 const SOON = 30000, LATER = 600000;            // ms before the items are read anew: where none has a name, and where one has
 const names = new Map(Object.entries(JSON.parse(setting("names", "{}"))));
+for (const name of Object.keys(localStorage)) if (name.startsWith("lot-stock/name/")) localStorage.removeItem(name);    // as an older page kept them
 let items = [], readAt = -Infinity, readAct = -1, reading = null;
 
 /** Keeps names that were read. */

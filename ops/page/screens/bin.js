@@ -35,9 +35,10 @@ export function bin(name) {
   }, { attributes: { class: "lines flat" }, file: `bin-${name}`, columns: columns(name) });
   const links = HERE.map(([route, field, words]) => link(words, route, field, name));
   const label = button(say`Bin label`, () => { add([name]); location.hash = "#/labels"; });
-  const others = [link(say`Move all of it`, "carry", name), link(say`Count sheet`, "sheets", name)];
+  /** What is done seldom stands below the lots on a hand. */
+  const seldom = [link(say`Move all of it`, "carry", name), link(say`Count sheet`, "sheets", name), label, button(say`Print`, () => print(), { class: "desk" }), list.save], isDesk = matchMedia("(min-width: 900px)").matches;
   return { title: say`Bin ${name}`, follows: true, refresh: list.refresh, other: tag("p", { class: "pair" }, link(say`${name} is an order`, "order", name)),
-    node: tag("div", {}, tag("div", { class: "pair" }, links, others, label, button(say`Print`, () => print(), { class: "desk" }), list.save), head, list.node) };
+    node: isDesk ? tag("div", {}, tag("div", { class: "pair" }, links, seldom), head, list.node) : tag("div", {}, tag("div", { class: "pair" }, links), head, list.node, tag("div", { class: "pair" }, seldom)) };
 }
 
 const all = () => JSON.parse(setting("labels", "[]"));
