@@ -53,17 +53,12 @@ const lines = text => text.split("\n").slice(0, -1);
 export const order = id => get("orders", id);
 export const stock = gtin => get("stock", gtin);
 
-/** What is to be taken for an order: each lot of it, with the bins that have it. */
-export async function pickList(id) {
-  const takes = [];
-  let gtin, least;
-  for (const words of lines(await get("picklists", id)).map(line => line.split(" "))) {
-    if (words[0] === "ITEM") [gtin, least] = [words[1], +words[11]];
-    else if (words[0] === "TAKE") takes.push({ gtin, least, lot: words[1], expiry: words[2], qty: +words[3], from: [] });
-    else if (words[0] === "FROM") takes.at(-1).from.push({ bin: words[1], qty: +words[2] });
-  }
-  return takes;
-}
+/** An order with what is to be taken for it: each lot, with the bins that have it, and the names of its items. */
+export const picks = order => get("picks", order);
+/** Where a lot came from, where it is, and whom it went to. */
+export const trace = (gtin, lot) => get("traces", gtin, lot);
+/** How the house stands, in numbers of one moment. */
+export const figures = () => get("figures");
 
 /** The orders that are short of an item. */
 export async function shortages(gtin) {

@@ -43,10 +43,10 @@ export function expires(given = "7") {
 }
 
 /** What expires within seven days, for home: how much, and what is over in red. */
-export async function expiringAtHome() {
-  const { lots, more } = await readOn(expiring(dayIn(7))), isGone = it => daysTo(it.expiry) < 0 || it.status === "EXPIRED", gone = lots.filter(isGone), some = more ? "+" : "";
+export async function expiringAtHome({ lots: { expired } }) {
+  const { lots, more } = await readOn(expiring(dayIn(7))), isGone = it => daysTo(it.expiry) < 0 || it.status === "EXPIRED", some = more ? "+" : "";
   return [tag("h2", {}, tag("a", { href: "#/expiring/7" }, say`Until ${dayIn(7)} expire: ${counted(lots.length, "lot", some)}`),
-    gone.length > 0 && tag("span", { class: "short" }, " ", say`${grouped(gone.length) + some} expired`)),
+    expired > 0 && tag("span", { class: "short" }, " ", say`${grouped(expired)} expired`)),
   tag("ul", { class: "plain" }, lots.slice(0, 5).map(it => tag("li", { class: isGone(it) ? "over" : "" }, tag("a", { href: lotPath(it) }, it.lot),
     tag("span", {}, it.name, it.status === "FREE" ? "" : [" ", chip(it.status)]), tag("b", {}, it.expiry, " ", tag("small", {}, counted(unitsOf(it), "unit"))))))];
 }

@@ -1,14 +1,13 @@
 // Home: a number of the menu, or anything scanned; at a desk also how the house stands.
 import { tag } from "../dom.js";
 import { bare, gtin, isLabel, parts } from "../label.js";
-import { order } from "../ask.js";
+import { figures, order } from "../ask.js";
 import { refuse } from "../told.js";
 import { wasAtOnce } from "../scan.js";
 import { books, inBin, readOn } from "../lists.js";
 import { itemsNamed, nameOf } from "../names.js";
 import { hits } from "../hits.js";
 import { told } from "../day.js";
-import { sum } from "../draw.js";
 import { counted, grouped, say } from "../say.js";
 import { facts } from "./state.js";
 import { openAtHome } from "./open.js";
@@ -71,9 +70,9 @@ export function named(text) {
   return { title: say`Items with "${text}"`, refresh, node: tag("div", {}, anything().node, list) };
 }
 
-async function returnsAtHome() {
-  const { lots, more } = await readOn(inBin("RETURNS"));
-  return [tag("h2", {}, tag("a", { href: "#/bin/RETURNS" }, lots.length ? say`In RETURNS: ${counted(sum(lots), "unit", more ? "+" : "")}` : say`Nothing in RETURNS`)),
+async function returnsAtHome({ units: { returns } }) {
+  const { lots } = await readOn(inBin("RETURNS"));
+  return [tag("h2", {}, tag("a", { href: "#/bin/RETURNS" }, returns ? say`In RETURNS: ${counted(returns, "unit")}` : say`Nothing in RETURNS`)),
     tag("ul", { class: "plain" }, lots.slice(0, 5).map(it => tag("li", {}, tag("a", { href: `#/lot/${it.gtin}/${encodeURIComponent(it.lot)}` }, it.lot),
       tag("span", {}, it.name), tag("b", {}, grouped(it.qty)))))];
 }
@@ -85,7 +84,10 @@ export function home(menu) {
   async function refresh() {
     if (!isDesk.matches) return books();
     const fault = await state().then(() => null, it => it);
-    if (told.day) await Promise.all(places.map(async ([read, place]) => place.replaceChildren(...await read())));
+    if (told.day) {
+      const numbers = await figures();
+      await Promise.all(places.map(async ([read, place]) => place.replaceChildren(...await read(numbers))));
+    }
     if (fault) throw fault;
   }
   return { title: "Lot stock", refresh, follows: true, readsBooks: true,

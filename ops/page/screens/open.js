@@ -2,6 +2,7 @@
 import { button, tag } from "../dom.js";
 import { form } from "../form.js";
 import { openOrders, read, readOn } from "../lists.js";
+import { figures } from "../ask.js";
 import { bar, chip, told } from "../draw.js";
 import { counted, grouped, say } from "../say.js";
 import { download } from "../csv.js";
@@ -57,7 +58,7 @@ const columns = it => [["order", it.order], ["customer", it.customer], ["class",
 /** The open orders, of which one is scanned or touched; `screen` shows it, and `first` is what is listed at first. A picker has the
  *  list alone, and may touch several for one walk. */
 export function choose(screen, title, first) {
-  let kept = first, chosen = null;              // the orders that were touched for one walk
+  let kept = first, chosen = null, open = null; // the orders that were touched for one walk; how many there are
   const isPicker = screen === "pick", show = order => { location.hash = `#/${screen}/${encodeURIComponent(order)}`; };
   const asked = form({ names: ["order"], button: say`Show`, isAside: isPicker, done: ({ order }) => show(order) });
   const head = tag("p", { class: isPicker ? "desk" : "" }), tabs = tag("div", { class: "tabs four" }), several = button("", walk, { class: "several" });
@@ -69,26 +70,31 @@ export function choose(screen, title, first) {
   } } : {});
   const list = growing(openOrders, found => {
     const some = found.more ? "+" : "", count = keeps => grouped(found.orders.filter(keeps).length) + some;
-    head.textContent = [counted(found.orders.length, "order", some), say`${count(KEEP.short[1])} short`].join(", ");
-    tabs.replaceChildren(...Object.entries(KEEP).map(([name, [words, keeps]]) => button([words, " ", tag("b", {}, count(keeps))], () => { kept = name; list.refresh(); }, { "aria-pressed": String(kept === name) })));
+    head.textContent = open ? [counted(open.orders, "order"), say`${grouped(open.short)} short`].join(", ") : "";
+    const all = { all: open && grouped(open.orders), short: open && grouped(open.short) };
+    tabs.replaceChildren(...Object.entries(KEEP).map(([name, [words, keeps]]) => button([words, " ", tag("b", {}, all[name] ?? count(keeps))], () => { kept = name; list.refresh(); }, { "aria-pressed": String(kept === name) })));
     several.textContent = !chosen ? say`Several in one walk` : chosen.size ? say`Pick ${chosen.size} in one walk` : say`Touch the orders`;
     const these = found.orders.filter(isKept);
     return these.length ? these.map(orderRow(screen, touched)) : [tag("li", { class: "none" }, say`None`)];
   }, { isEnough: found => found.orders.some(isKept), file: "open-orders", columns });
+  async function refresh() {
+    open = (await figures()).open;
+    await list.refresh();
+  }
   function walk() {
     if (chosen?.size) location.hash = "#/pick/" + [...chosen].map(encodeURIComponent).join("/");
     chosen = chosen ? null : new Set();
     list.draw();
   }
-  return { title, form: asked, follows: true, refresh: list.refresh, take: isPicker ? text => show(text.replace(/^\][A-Za-z]\d/, "").toUpperCase()) : null,
+  return { title, form: asked, follows: true, refresh, take: isPicker ? text => show(text.replace(/^\][A-Za-z]\d/, "").toUpperCase()) : null,
     node: isPicker ? tag("div", { class: "two" }, tag("div", {}, tabs, head), tag("div", {}, list.node, several, asked.node))
       : tag("div", { class: "two" }, tag("div", {}, asked.node, head, tabs, list.save), list.node) };
 }
 
-/** How many orders are open and short, as far as one answer tells, and the first ten: for home. */
-export async function openAtHome() {
-  const { orders, more } = await readOn(openOrders), short = orders.filter(KEEP.short[1]), some = more ? "+" : "";
-  return [tag("h2", {}, tag("a", { href: "#/order" }, counted(orders.length, "order", some)),
-    short.length > 0 && tag("span", { class: "short" }, " ", say`${grouped(short.length) + some} short`)),
+/** How many orders are open and short, and the first ten: for home. */
+export async function openAtHome({ open }) {
+  const { orders } = await readOn(openOrders);
+  return [tag("h2", {}, tag("a", { href: "#/order" }, counted(open.orders, "order")), open.short > 0 && tag("span", { class: "short" }, " ", say`${grouped(open.short)} short`)),
+    tag("p", {}, say`${grouped(open.urgent)} urgent, ${grouped(open.staged)} with units picked`),
   tag("ul", { class: "rows" }, orders.slice(0, 10).map(orderRow("order")))];
 }

@@ -3,8 +3,8 @@
 import { button, isMeant, tag } from "../dom.js";
 import { act } from "../outbox.js";
 import { form } from "../form.js";
-import { order, pickList } from "../ask.js";
-import { known, lotWords, namesOf } from "../names.js";
+import { order, picks } from "../ask.js";
+import { known, learn, lotWords } from "../names.js";
 import { bar, expiryBar, legend, orderHead, sum } from "../draw.js";
 import { grouped, say } from "../say.js";
 import { symbol } from "../code39.js";
@@ -15,7 +15,7 @@ const byBin = (a, b) => (a.from[0]?.bin ?? "~").localeCompare(b.from[0]?.bin ?? 
 
 export function pick(...ids) {
   const [id] = ids, isOne = ids.length === 1;
-  let isBack = false, takes = [], staged = [], chosen = null;
+  let isBack = false, isStaged = false, takes = [], staged = [], chosen = null, shown = 0;
   const head = tag("section", { class: "about" }), first = tag("section"), list = tag("section", { class: "takes" });
   const it = form({
     names: ["lot", "bin", "qty"], button: say`Pick`,
@@ -34,8 +34,11 @@ export function pick(...ids) {
     },
   });
   it.rows.lot.field.addEventListener("change", ({ target: { value } }) => { if (value && value !== chosen?.lot) choose(value, undefined, false); });
-  const turn = button(say`Put back`, () => {
+  /** The lots that are picked for the order: they are read where something is put back. */
+  const readStaged = async () => { staged = (await order(id)).lines.flatMap(line => line.staged.map(lot => ({ ...lot, gtin: line.gtin, order: id }))); };
+  const turn = button(say`Put back`, async () => {
     isBack = !isBack;
+    if (isBack) await readStaged().catch(fault => refuse(fault.message));
     it.node.hidden = false;
     [it.go.textContent, turn.textContent] = isBack ? [say`Put back`, say`Pick again`] : [say`Pick`, say`Put back`];
     chosen = null;
@@ -43,7 +46,7 @@ export function pick(...ids) {
     it.clear("lot", "bin", "qty");
   });
   const ship = button(say`Ship`, async () => {
-    if (await isMeant(say`Ship ${id}: ${grouped(sum(staged))} units that are picked?`, say`Ship`)) await act("shipments", { order: id }, say`Shipped ${id}`);
+    if (await isMeant(say`Ship ${id}: ${grouped(shown)} units that are picked?`, say`Ship`)) await act("shipments", { order: id }, say`Shipped ${id}`);
   });
 
   /** Once an order is out of the way the next one is scanned here. */
@@ -73,25 +76,28 @@ export function pick(...ids) {
       take.expiry && expiryBar(take.expiry, "FREE", take.least),
     ], () => { chosen = take; choose(take.lot, take.gtin); if (!isOne) { chosen = take; draw(); } }, { class: "take", "aria-pressed": String(take === chosen) });
     first.classList.toggle("first", Boolean(top));
-    first.replaceChildren(top ? card(top) : tag("p", { class: "none" }, isBack ? say`Nothing is picked` : staged.length ? say`All of it is picked` : say`Nothing to take`));
+    first.replaceChildren(top ? card(top) : tag("p", { class: "none" }, isBack ? say`Nothing is picked` : isStaged ? say`All of it is picked` : say`Nothing to take`));
     list.replaceChildren(...all.filter(take => take !== top).map(card));
   }
 
   async function refresh() {
-    const read = await Promise.all(ids.map(async each => [await pickList(each), await order(each)]));
-    await namesOf(read.flatMap(([, whole]) => whole.lines.map(({ gtin }) => gtin)));
-    takes = read.flatMap(([rows, whole], at) => rows.map(take => ({ ...take, order: ids[at], customer: whole.customer }))).sort(byBin);
-    staged = read.flatMap(([, whole], at) => whole.lines.flatMap(line => line.staged.map(lot => ({ ...lot, gtin: line.gtin, order: ids[at] }))));
+    const read = await Promise.all(ids.map(picks)), lines = read.flatMap(whole => whole.lines), [whole] = read;
+    learn(lines);
+    takes = read.flatMap(({ order, customer, lines }) => lines.flatMap(({ gtin, least, take }) => take.map(({ bins, ...rest }) => ({ ...rest, from: bins, gtin, least, order, customer })))).sort(byBin);
+    shown = sum(lines, "staged");
+    isStaged = shown > 0;
+    if (isBack) await readStaged();
     if (chosen) chosen = (isBack ? staged : takes).find(each => each.lot === chosen.lot && each.gtin === chosen.gtin && each.order === chosen.order) ?? null;
-    const lines = read.flatMap(([, whole]) => whole.lines), [[, whole]] = read;
-    const pairs = [["shipped", sum(lines, "shipped")], ["staged", sum(staged)], ["reserved", sum(takes)], ["short", sum(lines, "short")]];
-    ship.disabled = !staged.length;
-    ship.classList.toggle("go", staged.length > 0 && !takes.length);      // the next thing to do
-    it.node.hidden = read.every(([, { state }]) => state !== "OPEN") || (!takes.length && !isBack);
-    next.node.hidden = !it.node.hidden || staged.length > 0 || !isOne;
+    const pairs = [["shipped", sum(lines, "shipped")], ["staged", sum(lines, "staged")], ["reserved", sum(takes)], ["short", sum(lines, "short")]];
+    ship.disabled = !isStaged;
+    ship.classList.toggle("go", isStaged && !takes.length);      // the next thing to do
+    it.node.hidden = read.every(({ state }) => state !== "OPEN") || (!takes.length && !isBack);
+    next.node.hidden = !it.node.hidden || isStaged || !isOne;
     if (!next.node.hidden) next.rows.order.field.focus();
-    const heads = isOne ? orderHead(whole) : tag("ul", { class: "plain" }, read.map(([rows, { customer }], at) =>
-      tag("li", {}, tag("a", { href: `#/pick/${ids[at]}` }, ids[at]), tag("span", {}, customer), tag("b", {}, rows.length ? grouped(sum(rows)) : "✓"))));
+    const heads = isOne ? orderHead(whole) : tag("ul", { class: "plain" }, read.map(({ order, customer }) => {
+      const left = sum(takes.filter(take => take.order === order));
+      return tag("li", {}, tag("a", { href: `#/pick/${order}` }, order), tag("span", {}, customer), tag("b", {}, left ? grouped(left) : "✓"));
+    }));
     head.replaceChildren(heads, bar(pairs, sum(lines, "ordered")), legend(pairs), isOne && tag("div", { class: "paper" }, symbol(id)) || "");
     draw();
   }
