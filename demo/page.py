@@ -111,7 +111,7 @@ class Page(http.server.BaseHTTPRequestHandler):
             self.give(413)
             return
         body = self.rfile.read(int(length))
-        path = re.sub(r"^/dots/([12])(/(?:cards|notices)/\d+)$", lambda it: f"{it[2]}/{'.' * int(it[1])}", self.path)
+        path = re.sub(r"^/dots/([12])(/(?:cards|notices|traces)/\d+)$", lambda it: f"{it[2]}/{'.' * int(it[1])}", self.path)
         connection = http.client.HTTPConnection("127.0.0.1", self.behind, timeout=60)
         try:
             connection.request(self.command, path, body)
