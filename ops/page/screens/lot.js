@@ -52,7 +52,7 @@ export function lot(gtin, name) {
       told.staged.length > 0 && tag("h3", {}, say`Picked for`),
       told.staged.length > 0 && tag("ul", { class: "plain" }, told.staged.map(it => tag("li", {}, tag("a", { href: `#/order/${it.order}` }, it.order), tag("span", {}, it.customer), tag("b", {}, grouped(it.qty))))),
       tag("h3", {}, say`Came with: ${grouped(told.received)} received`),
-      tag("ul", { class: "plain" }, told.deliveries.map(it => tag("li", {}, tag("span", {}, `${it.delivery}/${it.line}`), tag("span", {}, it.day), tag("b", {}, grouped(it.qty))))),
+      tag("ul", { class: "plain from" }, told.deliveries.map(it => tag("li", {}, tag("span", {}, `${it.delivery}/${it.line}`), tag("span", {}, it.day), tag("b", {}, grouped(it.qty))))),
       tag("p", { class: isEven ? "even" : "uneven" }, isEven ? "✓ " : "✕ ", say`received ${grouped(told.received)} + written on ${grouped(told.on)} = written off ${grouped(told.off)} + bins ${grouped(inBins)} + picked ${grouped(staged)} + shipped ${grouped(out)}`),
     ].filter(Boolean);
   }
