@@ -26,8 +26,16 @@ TOP = os.path.dirname(os.path.dirname(os.path.abspath(__file__)))
 FILES = os.path.join(TOP, "ops/page")
 with open(os.path.join(TOP, "ops/nginx-lotd.conf"), encoding="utf-8") as file:
     CONF = file.read()
-HEADERS = [(name, quoted or bare) for name, quoted, bare in re.findall(r'^    add_header (\S+) (?:"([^"]*)"|(\S+)) always;', CONF, re.M)]
+# Without TLS there is nothing to say of it.
+FIELDS = [(name, quoted or bare) for name, quoted, bare in re.findall(r'^    add_header (\S+) (?:"([^"]*)"|(\S+)) always;', CONF, re.M)
+          if name != "Strict-Transport-Security"]
+# What a variable of these is, and the files of the page for which it is nothing.
+VALUES = {name: quoted or bare for name, quoted, bare in re.findall(r'^map \$lotd_part (\$\w+) \{\n    0 (?:"([^"]*)"|(\S+));', CONF, re.M)}
+PARTS = re.search(r'^map \$uri \$lotd_part \{\n(.*?)^\}', CONF, re.M | re.S)[1]
+WHOLE, BARE = re.findall(r"^    (/\S+) 0;", PARTS, re.M), re.search(r'^    "~([^"]+)" 1;', PARTS, re.M)[1]
 TYPES = {ending: kind for kind, ending in re.findall(r"^ +((?:text|image|application)/\S+) (\w+);", CONF, re.M)}
+# What the page goes by in a house.
+HOUSE = re.search(r"location = /state/house\.json \{[^}]*return 200 '([^']*)';", CONF)[1]
 LARGEST = 262144
 
 
@@ -35,6 +43,12 @@ def free_port():
     with socket.socket() as it:
         it.bind(("127.0.0.1", 0))
         return it.getsockname()[1]
+
+
+def headers(path):
+    """What the proxy says with each answer: of a script or a style a part of it."""
+    is_bare = path not in WHOLE and re.search(BARE, path)
+    return [(name, VALUES.get(value, value)) for name, value in FIELDS if not (is_bare and value in VALUES)]
 
 
 class Page(http.server.BaseHTTPRequestHandler):
@@ -46,7 +60,7 @@ class Page(http.server.BaseHTTPRequestHandler):
 
     def give(self, status, body=b"", kind="text/plain", **fields):
         self.send_response(status)
-        for name, value in [*HEADERS, ("Content-Type", kind), ("Content-Length", len(body)), ("Cache-Control", "no-cache"), *fields.items()]:
+        for name, value in [*headers(self.path.partition("?")[0]), ("Content-Type", kind), ("Content-Length", len(body)), ("Cache-Control", "no-cache"), *fields.items()]:
             self.send_header(name, str(value))
         self.end_headers()
         self.wfile.write(body)
@@ -66,6 +80,8 @@ class Page(http.server.BaseHTTPRequestHandler):
             self.give(204)
         elif path == "/state/day.json":
             self.give(200, json.dumps(self.day).encode(), "application/json")
+        elif path == "/state/house.json":
+            self.give(200, HOUSE.encode(), "application/json")
         elif path.startswith("/state/"):
             self.give(404)
         elif path.startswith("/page/"):
@@ -95,7 +111,7 @@ class Page(http.server.BaseHTTPRequestHandler):
             self.give(413)
             return
         body = self.rfile.read(int(length))
-        path = re.sub(r"^/dots/([12])(/(?:cards|notices)/\d+)$", lambda it: f"{it[2]}/{'.' * int(it[1])}", self.path)
+        path = re.sub(r"^/dots/([12])(/(?:cards|notices|traces)/\d+)$", lambda it: f"{it[2]}/{'.' * int(it[1])}", self.path)
         connection = http.client.HTTPConnection("127.0.0.1", self.behind, timeout=60)
         try:
             connection.request(self.command, path, body)

@@ -38,6 +38,7 @@ def begin(room, tls, chromedriver):
                  "--hide-scrollbars", "--window-size=1280,800"):
         options.add_argument(word)
     options.accept_insecure_certs = True
+    options.add_experimental_option("prefs", {"intl.accept_languages": "en-US,en"})
     options.set_capability("goog:loggingPrefs", {"browser": "ALL"})
     page = webdriver.Chrome(options=options, service=Service(chromedriver))
     log_in(nginx.USER)

@@ -40,6 +40,7 @@ class Gate(socketserver.BaseRequestHandler):
     mode = "pass"
     behind = 0                                  # the port of lotd
     kill = None                                 # what kills it
+    stand_in = None                             # what answers requests that the program has not yet
     posts = []                                  # the bodies that came since the list was emptied
 
     def handle(self):
@@ -50,6 +51,11 @@ class Gate(socketserver.BaseRequestHandler):
             mode = "pass"
         while Gate.mode == "silent":
             time.sleep(0.05)
+        stand_in = Gate.stand_in
+        if stand_in and mode in ("pass", "silent") and (instead := stand_in.answers(raw)):
+            self.request.sendall(instead)
+            return
+        order = stand_in.before(raw) if stand_in else None
         if mode in SPOILED:
             self.request.sendall(SPOILED[mode])
             return
@@ -58,6 +64,8 @@ class Gate(socketserver.BaseRequestHandler):
                 told = server.bytes_of(behind)
         except OSError:
             return
+        if stand_in:
+            stand_in.after(order, told)
         if mode == "kill":
             Gate.kill()
         if mode in ("pass", "silent"):

@@ -1,6 +1,7 @@
 """Random days' work, and after each tenth act each list (the books, the open orders, the items, the lots that expire, the
-lots in a bin), page by page and behind entries of all kinds, against a plain reckoning over the lines of `lotd history`. ACTS
-says how many acts (3,000), SEED from where the work is drawn. Needs the Rattle kit, and takes some minutes.
+lots in a bin), page by page and behind entries of all kinds, the figures, the pick lists of three orders and the traces of lots,
+against a plain reckoning over the lines of `lotd history`. ACTS says how many acts (3,000), SEED from where the work is drawn.
+Needs the Rattle kit, and takes some minutes.
 Exit status 0 only if every answer was, byte for byte, what is reckoned here.
 """
 import collections
@@ -31,9 +32,11 @@ class Books:
         self.lots, self.held, self.recalled = {}, set(), set()
         self.stock, self.staged, self.shipped = collections.Counter(), collections.Counter(), collections.Counter()
         self.orders, self.cancelled = {}, set()
+        self.came, self.on, self.off = collections.defaultdict(list), collections.Counter(), collections.Counter()
+        self.shipments, self.in_shipment = [], collections.Counter()
 
     def do(self, line):
-        number, _, _, word, *values = line.split("\t")
+        number, self.day, self.key, word, *values = line.split("\t")
         self.acts = int(number)
         getattr(self, "do_" + word.lower())(*values)
 
@@ -48,16 +51,23 @@ class Books:
     def do_receive(self, gtin, lot, expiry, name, qty):
         self.lots.setdefault((gtin, lot), (acts.day_number(expiry), self.acts))
         self.stock[gtin, lot, name] += int(qty)
+        _, delivery, row = self.key.split("/")
+        self.came[gtin, lot].append({"act": self.acts, "day": self.day, "delivery": delivery, "line": int(row), "qty": int(qty)})
 
     def do_move(self, gtin, lot, source, target, qty):
         self.stock[gtin, lot, source] -= int(qty)
         self.stock[gtin, lot, target] += int(qty)
 
     def do_count(self, gtin, lot, name, qty):
+        self.write((gtin, lot), int(qty) - self.stock[gtin, lot, name])
         self.stock[gtin, lot, name] = int(qty)
 
     def do_adjust(self, gtin, lot, name, change):
+        self.write((gtin, lot), int(change))
         self.stock[gtin, lot, name] += int(change)
+
+    def write(self, lot, change):
+        (self.on if change > 0 else self.off)[lot] += abs(change)
 
     def do_order(self, name, customer, *lines, urgent=False):
         wanted = {gtin: int(qty) for gtin, qty in zip(lines[::2], lines[1::2])}
@@ -78,7 +88,9 @@ class Books:
         self.stock[gtin, lot, name] += int(qty)
 
     def do_ship(self, order):
+        self.shipments.append({"customer": self.orders[order]["customer"], "day": self.day, "number": len(self.shipments) + 1, "order": order})
         for key in [key for key in self.staged if key[0] == order]:
+            self.in_shipment[len(self.shipments), key[1:]] += self.staged[key]
             self.shipped[order, key[1]] += self.staged.pop(key)
 
     def do_hold(self, gtin, lot):
@@ -182,6 +194,50 @@ class Books:
                     "reserved": sum(qty for key, qty in reserved.items() if key[1] == lot), "staged": staged, "status": self.status(lot)}))
         return found
 
+    def trace(self, lot):
+        bins = {key[2]: qty for key, qty in self.stock.items() if key[:2] == lot and qty}
+        staged = {key[0]: qty for key, qty in self.staged.items() if key[1:] == lot and qty}
+        return {"act": self.acts, "bins": [{"bin": name, "qty": bins[name]} for name in sorted(bins)], "deliveries": self.came[lot],
+                "expiry": acts.day_text(self.lots[lot][0]), "gtin": lot[0], "lot": lot[1], "name": self.items[lot[0]],
+                "off": self.off[lot], "on": self.on[lot], "received": sum(row["qty"] for row in self.came[lot]),
+                "shipments": [{**row, "qty": self.in_shipment[row["number"], lot]} for row in self.shipments if self.in_shipment[row["number"], lot]],
+                "staged": [{"customer": self.orders[name]["customer"], "order": name, "qty": staged[name]} for name in sorted(staged)],
+                "status": self.status(lot)}
+
+    def bins_of(self, lot):
+        return {key[2]: qty for key, qty in self.stock.items() if key[:2] == lot and qty}
+
+    def staged_of(self, lot):
+        return sum(qty for key, qty in self.staged.items() if key[1:] == lot)
+
+    def take(self, lot, qty):
+        bins = {name: units for name, units in self.bins_of(lot).items() if self.kinds[name] == "STORE"}
+        return {"bins": [{"bin": name, "qty": bins[name]} for name in sorted(bins)], "expiry": acts.day_text(self.lots[lot][0]),
+                "lot": lot[1], "qty": qty}
+
+    def pick_line(self, name, gtin, reserved):
+        lots = [lot for lot in sorted(self.lots, key=self.lots.get) if lot[0] == gtin and reserved[name, lot]]
+        return {"gtin": gtin, "least": self.least.get(gtin, 0), "name": self.items[gtin], "ordered": self.orders[name]["lines"][gtin],
+                "shipped": self.shipped[name, gtin], "short": self.need(name, gtin) - sum(reserved[name, lot] for lot in lots),
+                "staged": self.staged_for(name, gtin), "take": [self.take(lot, reserved[name, lot]) for lot in lots]}
+
+    def picks(self, name, reserved):
+        order = self.orders[name]
+        state = "CANCELLED" if name in self.cancelled else "OPEN" if self.is_open(name) else "DONE"
+        return {"customer": order["customer"], "lines": [self.pick_line(name, gtin, reserved) for gtin in sorted(order["lines"])],
+                "order": name, "state": state}
+
+    def figures(self, reserved):
+        opened = [order for _, order in self.open_orders(reserved)]
+        status = [self.status(lot) for lot in self.lots if self.bins_of(lot) or self.staged_of(lot)]
+        in_bins = sum(self.stock.values())
+        return {"act": self.acts, "day": acts.day_text(self.today),
+                "lots": {word.lower(): status.count(word) for word in ("EXPIRED", "HELD", "RECALLED")},
+                "open": {"orders": len(opened), "short": sum(order["short"] > 0 for order in opened),
+                         "staged": sum(order["staged"] > 0 for order in opened), "urgent": sum(order["class"] == "URGENT" for order in opened)},
+                "units": {"house": in_bins + sum(self.staged.values()),
+                          "returns": sum(qty for key, qty in self.stock.items() if key[2] == "RETURNS")}}
+
     def by_item(self, lot):
         """The place of a lot among all, as they stand in a bin."""
         return lot[0], self.lots[lot]
@@ -246,6 +302,9 @@ def all_lists(clerk, db):
     if books.orders:
         name = chance.choice(list(books.orders))
         behind(clerk, "/openorders/" + name, "orders", books.acts, opened, PAGE, books.place(name))
+    is_told(clerk, "/figures", books.figures(reserved))
+    for name in chance.sample(list(books.orders), min(3, len(books.orders))):
+        is_told(clerk, "/picks/" + name, books.picks(name, reserved))
     names = books.names()
     are_told(clerk, "/itemnames", "items", books.acts, names, NAMES, lambda entry: entry["gtin"])
     gtin = chance.choice(list(books.items))
@@ -256,6 +315,7 @@ def all_lists(clerk, db):
     are_told(clerk, path, "lots", books.acts, expiring, PAGE, of_lot)
     lot = chance.choice([lot for lot in books.lots if lot[1] not in (".", "..")])
     behind(clerk, "%s/%s/%s" % (path, lot[0], quoted(lot[1])), "lots", books.acts, expiring, PAGE, books.lots[lot])
+    is_told(clerk, "/traces/%s/%s" % (lot[0], quoted(lot[1])), books.trace(lot))
     name = chance.choice(list(books.kinds))
     path, found, beside = "/bins/" + quoted(name), books.in_bin(name), {"bin": name, "kind": books.kinds[name]}
     are_told(clerk, path, "lots", books.acts, found, PAGE, of_lot, **beside)

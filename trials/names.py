@@ -30,9 +30,9 @@ EXCEPTIONS = {
     "stands for any such name in a page that tells how something is added": "judge_X change_X X_seen X_told X_changes X_posted",
 }
 # Paths of the host, of the proxy, and of what an installation makes.
-ELSEWHERE = ("/etc/", "/usr/", "/var/", "/mnt/", "/root/", "/dev/", "/tmp/", "/state/", "/page/", "/dots/", "/PATH")
+ELSEWHERE = ("/etc/", "/usr/", "/var/", "/mnt/", "/root/", "/dev/", "/tmp/", "/state/", "/page/", "/dots/", "/health", "/metrics", "/PATH")
 # Files that the program, the kit or the service makes or is given.
-MADE = {"crates/NAME", "crates/lotd/out/lotd", "crates/lotd/out/lotd.tried", "examples/nginx-lotd.conf", "examples/nginx.conf", "lotd.crt", "ops/out",
+MADE = {"crates/NAME", "crates/lotd/out/lotd", "crates/lotd/out/lotd.tried", "examples/nginx-lotd.conf", "examples/nginx.conf", "lotd.crt", "lotd-ca.crt", "lotd.key", "ops/out",
         "proofs/FILE/FUNCTION/Answers.antt", "proofs/FILE/FUNCTION/Invariants.antt", "proofs/NAME.antt",
         "specs/DecidedX.antt", "stock.acts-wal", "stock.db", "stock.db-wal", "stock.example"}
 # What a document says otherwise than as a name of the tree, whole.
@@ -103,6 +103,8 @@ ALL = set().union(*NAMES.values())
 ROUTES = set(re.findall(r'"/([a-z]+)', text_of("crates/requests/src/routes.rt")))
 LINES = set(re.findall(r'"([a-z]+)"', "".join(text_of(path) for path in FILES if path.startswith("crates/command_line/src/"))))
 PAGES = {word for path in FILES if path.startswith("ops/") for word in re.findall(r"[\w-]+", text_of(path))}
+# What lotd-metrics writes.
+METRICS = {"lotd_" + name for name in re.findall(r"\bmetric (\w+) ", text_of("ops/lotd-metrics"))}
 OTHERS = {word for words in EXCEPTIONS.values() for word in words.split()}
 
 
@@ -117,7 +119,7 @@ def is_file(path):
 
 
 def is_word(word):
-    return word in OTHERS or word in CRATES or word in ALL or word in WORDS or word in ROUTES or word in PAGES or word.isdigit()
+    return word in OTHERS or word in CRATES or word in ALL or word in WORDS or word in ROUTES or word in PAGES or word in METRICS or word.isdigit()
 
 
 def is_path_of_names(token):

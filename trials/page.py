@@ -1,9 +1,10 @@
 """The page of `ops/page` in a real browser, behind the proxy of `ops/nginx-lotd.conf` with its ports and files elsewhere: the way of
 a lot from goods in to the recall notice, by scanned labels; answers that are lost, a server that is killed, 503, a page of
 another server, a server that is silent, a closed and a killed browser, no network, two windows: each act stands once; what is
-refused, in words, for every code of the documents; lots and names with marks; requests of other origins; small and large; and the
-house of `sh demo.sh page`.
-Needs the Rattle kit and Debian's nginx, openssl, chromium, chromium-driver and python3-selenium, and takes three minutes.
+refused, in words, for every code of the documents; lots and names with marks; requests of other origins; small and large; labels of the
+trade; what a screen asks; German; axe-core's rules; a page without proxy and network; and the house of `sh demo.sh page`.
+Needs the Rattle kit and Debian's nginx, openssl, chromium, chromium-driver and python3-selenium, and takes about ten minutes. Symbols are
+tried where zint and zxing-cpp-tools are there, and axe-core's rules where the browser's DevTools bring them; else a line says that they were not.
 It has five ports from PORT on. SHOTS names a folder for pictures of the screens.
 Exit status 0 only if all was as expected, and 3 where nginx, the browser or selenium is not there.
 """
@@ -16,9 +17,16 @@ import time
 
 import browser
 import nginx
+import page_asks
+import page_away
+import page_axe
 import page_demo
+import page_desk
+import page_labels
+import page_language
 import page_lists
 import page_looks
+import page_routes
 import server
 from browser import by_hand, console, enter, every, go, is_fit, is_printed, is_told, mean, one, press, run, scan, text
 from browser import until, until_answered, until_told
@@ -42,7 +50,7 @@ def has_all_words():
                 wanted |= set(codes)
     is_told("codes that were not found", set(), {"U01", "S11", "F01", "W90", "L13", "L90", "G04", "G90"} - wanted)
     with open(os.path.join(TOP, "ops/page/words.js"), encoding="utf-8") as file:
-        words = set(re.findall(r'\b([A-Z]\d\d): \["\S', file.read()))
+        words = set(re.findall(r"\b([A-Z]\d\d): \[say`\S", file.read()))
     is_told("codes without words, or words without a code", set(), wanted ^ words)
     is_told("what the browser's console says", [], console())
     passed("each of the %d codes of the documents has words; the browser's console has no fault" % len(words))
@@ -161,7 +169,7 @@ def tells_a_line_that_came():
     is_told("it came once", [{"bin": "A-01", "qty": before[0]["qty"] + 6}], lots_of()["L2"]["bins"])
     go("outbox")
     if text("#sent") != "All answered":
-        press("Seen")
+        press("I have read it")
     until_answered()
     Gate.mode, Gate.posts[:] = "lost", []
     receives(52, "L2", 27, "A-01", 6)
@@ -230,6 +238,8 @@ def picks():
     is_told("it stands once", (3, []), (lots_of()[lot]["staged"], lots_of()[lot]["bins"]))
     scan(label("L3", 150))
     scan("A-01")
+    until_told("A-01 had none of this lot to sell", "refused")           # at the scan; once more, and it is sent
+    scan("A-01")
     by_hand("4")
     until_told("There are not that many in the bin", "refused")
     scan(label("L3", 150))
@@ -251,7 +261,7 @@ def picks():
 
 def can_be_done():
     """The buttons of a lot that can be pressed, but for Print."""
-    return [it.text for it in every(".pair button") if it.is_enabled() and it.text != "Print"]
+    return [it.text for it in every(".pair button") if it.is_displayed() and it.is_enabled() and it.text != "Print"]
 
 
 def shows_lots():
@@ -269,7 +279,7 @@ def shows_lots():
     until_told("Hold: L3 of Oat drink")
     until("its state", lambda: "HELD" in text(".lot"))
     is_told("what can be done with a held one", ["Release", "Recall"], can_be_done())
-    is_told("its units", True, "blocked 5" in text(".lot") and "unpromised 0" in text(".lot"))
+    is_told("its units", True, "blocked 5" in text(".lot") and "free" not in text(".lot"))
     mean("Release")
     until_told("Release: L3")
     until("its state", lambda: "HELD" not in text(".lot"))
@@ -277,11 +287,15 @@ def shows_lots():
     until_told("Recall: L3 of Oat drink")
     until("the notice", lambda: "Recall notice: 5 in bins, 3 shipped" in text("main") and "Corner Shop & <Sons>" in text("main"))
     is_fit("recalled")
-    is_printed("notice", [".lot", "#title", "#paper"], ["form", "nav", "header", ".pair"])
+    is_printed("notice", [".lot", "#title", "#paper", ".noticed", ".calls td.blank"], ["form", "nav", "header", ".pair"])
     is_told("what can still be done with it", [], can_be_done())
     go("item/" + OAT)
     until("the item", lambda: "Oat drink" in text("main"))
     by_hand("20")
+    is_told("a number falls into no field", "", one("[name=days]").get_attribute("value"))
+    one("[name=days]").click()
+    by_hand("20")
+    press("Set it", "dialog")
     until_told("must have 20 days left")
     until("its lots", lambda: "TOO FEW DAYS" in text("main"))
     passed("hold, release, recall, the notice with the customers to call, the card, lots of dots, least days")
@@ -361,9 +375,9 @@ def outlasts_a_password():
     """Another password is no answer of lotd, though its status is 401; nor are two windows two acts."""
     before, Gate.posts[:] = in_second_bin(), []
     go("moves")
-    time.sleep(1)                                       # what the screen reads when it is opened has come
-    nginx.write_users(room)
     scan(label("L2", 27))
+    until("where it lies", lambda: "A-01" in text(".about"))    # what the screen reads has come
+    nginx.write_users(room)
     scan("A-01")
     scan("A-02")
     by_hand("1")
@@ -472,7 +486,7 @@ def is_shut_to_other_sites():
 
 
 def bars_names():
-    """A name that begins with picker may pick, and not recall."""
+    """A name with the right `pick` may pick, and not recall."""
     browser.log_in("picker-1")
     go("lot/%s/L4" % OAT)
     until("the lot", lambda: "Stock card" in text("main"))
@@ -521,9 +535,13 @@ def opens_the_day():
 STEPS = [has_all_words, page_looks.signs_on, makes_items_and_bins, takes_goods_in, takes_the_set_character, refuses_in_words,
          tells_a_line_that_came, orders_short, picks, shows_lots, page_looks.shows_long_names, page_looks.stands_still,
          page_looks.opens_by_scans, page_looks.gives_an_order_back, page_looks.shows_the_state, page_lists.at_home,
-         page_lists.shows_open_orders, page_lists.shows_a_bin, page_lists.shows_what_expires, page_lists.finds_by_name, acts_once, shows_again, outlasts_a_password,
+         page_lists.shows_open_orders, page_lists.shows_a_bin, page_lists.shows_what_expires, page_lists.finds_by_name, page_desk.tells_a_late_day,
+         page_desk.takes_scans_anywhere, page_desk.counts_cases, page_desk.walks_for_several, page_desk.moves_a_bin, page_desk.makes_by_file,
+         page_desk.hands_out_files, page_desk.shows_a_delivery, page_desk.reads_symbols_of_a_screen, page_labels.reads_symbols, page_labels.tells_doubts,
+         page_labels.takes_best_before, page_asks.asks_little, page_asks.names_cost_little, page_routes.shows_whom_a_lot_went_to, page_routes.counts_all, page_routes.picks_by_one_request, page_language.speaks_german, page_axe.is_accessible, acts_once, shows_again, outlasts_a_password,
          goes_on_offline, is_shut, is_shut_to_other_sites, bars_names, page_looks.shows_home, page_looks.fits_all_screens, counts_and_writes_off,
-         page_looks.gives_back, opens_the_day, page_lists.counts_from_the_business_day, has_all_words, outlasts_a_dead_battery,
+         page_looks.gives_back, opens_the_day, page_lists.counts_from_the_business_day, has_all_words, page_away.reads_by_camera,
+         page_away.asks_for_the_password, page_away.opens_without_network, outlasts_a_dead_battery,
          page_demo.walks_the_demo]
 
 subprocess.run([lotd, "init", "--db", DB, "--day", DAY], check=True)
@@ -531,7 +549,7 @@ started = None
 began = time.monotonic()
 try:
     house.up()
-    Gate.behind, Gate.kill = BACK, house.down
+    Gate.behind, Gate.kill, Gate.stand_in = BACK, house.down, page_routes.StandIn
     for kind, port in ((Gate, GATE), (OtherSite, OTHER)):
         threading.Thread(target=Threads(("127.0.0.1", port), kind).serve_forever, daemon=True).start()
     started = nginx.proxy(*programs, room, TLS, GATE)

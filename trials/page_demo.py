@@ -39,7 +39,7 @@ def is_as_behind_the_proxy():
     for path, own in (("/page/", "/page/"), ("/page/main.js", "/page/main.js"), ("/books", "/books")):
         behind, here = asked(path), told(own)
         for name in POLICY:
-            is_told("%s of %s" % (name, path), behind[2][name], here[2][name])
+            is_told("%s of %s" % (name, path), behind[2].get(name), here[2].get(name))
         is_told("the type of " + path, behind[2]["Content-Type"].lower(), here[2]["Content-Type"].lower())
     is_told("the same file", asked("/page/main.js")[1], told("/page/main.js")[1])
     for fields in ({"Origin": "https://evil.example"}, {"Sec_Fetch_Site": "cross-site"}, {"Host": "evil.example"}):

@@ -3,7 +3,6 @@ page."""
 import base64
 import http.server
 import json
-import re
 import ssl
 import time
 import urllib.error
@@ -99,7 +98,8 @@ def label(lot, days, gtin=OAT, is_last=False):
 def logged():
     """What the proxy logged, each as the name, the request and the status; a browser asks for an icon when it likes."""
     with open(room + "/lotd.log", encoding="utf-8") as file:
-        return [re.search(r' (\S+) "(.*?) HTTP/[\d.]+" (\d+) ', line).groups() for line in file if "favicon" not in line]
+        lines = [json.loads(line) for line in file if line.endswith("\n") and "favicon" not in line]
+    return [(it["name"], "%s %s" % (it["method"], it["target"]), it["status"]) for it in lines]
 
 
 def entered():

@@ -1,12 +1,17 @@
 """lotd behind the proxy of `ops/nginx-lotd.conf`, with its ports and files elsewhere: TLS, names and passwords; a body in chunks
 and a slow one; lots whose names have a slash, a percent sign and a question mark; 300 requests by 32 clients at once; a
-server that ends again and again while they come, whose repeats act once; a backup taken between two runs, and restored.
-Needs the Rattle kit, nginx and openssl, and takes half a minute.
+server that ends again and again while they come, whose repeats act once; a backup taken between two runs, and restored. What a
+name may do; header fields and a name of the machine that are not the server's; guessed passwords; 600 clients that stop within
+TLS; the log; /health and /metrics; HTTP/2, and what goes packed.
+Needs the Rattle kit, nginx and openssl, and takes a minute.
 Exit status 0 only if every answer was the expected one, and 3 where nginx or openssl is not there.
 """
 import base64
 import concurrent.futures
+import gzip
+import json
 import os
+import re
 import shutil
 import socket
 import ssl
@@ -15,12 +20,18 @@ import sys
 import threading
 import time
 
+import nginx as front
 import server
 from nginx import found, proxy
 
 GTIN = "09506000134352"
-USER = "Authorization: Basic %s" % base64.b64encode(b"scanner:secret").decode()
-NO_ONE = "Authorization: Basic %s" % base64.b64encode(b"scanner:other").decode()
+
+
+def authorized(name, password="secret"):
+    return "Authorization: Basic %s" % base64.b64encode(("%s:%s" % (name, password)).encode()).decode()
+
+
+USER, NO_ONE = authorized("scanner"), authorized("scanner", "other")
 
 
 nginx, openssl = (found(name, "proxy", "nginx openssl") for name in ("nginx", "openssl"))
@@ -41,9 +52,11 @@ def is_told(what, expected, got):
 
 # ---- requests through the proxy
 
-def connected():
+def connected(protocols=()):
     """A connection with TLS to the proxy, whose certificate is the one that was made."""
     trusted = ssl.create_default_context(cafile=room + "/lotd.crt")
+    if protocols:
+        trusted.set_alpn_protocols(protocols)
     return trusted.wrap_socket(socket.create_connection(("127.0.0.1", tls), timeout=60), server_hostname="localhost")
 
 
@@ -56,6 +69,21 @@ def through(text):
     with connected() as peer:
         peer.sendall(text)
         return server.answer_of(peer)
+
+
+def whole(text):
+    """All bytes of the answer to a text, as its head and its body."""
+    with connected() as peer:
+        peer.sendall(text)
+        front_part, _, body = server.bytes_of(peer).partition(b"\r\n\r\n")
+        return front_part.decode("latin-1"), body
+
+
+def joined(body):
+    """A body that came in chunks."""
+    size, _, rest = body.partition(b"\r\n")
+    length = int(size, 16)
+    return rest[:length] + joined(rest[length + 2:]) if length else b""
 
 
 def posted(path, body, *fields):
@@ -164,6 +192,147 @@ def is_not_held_up():
     print("  a client that stops within its body holds up nobody", flush=True)
 
 
+def has_rights():
+    """A name may do what it has a right to, and another name, also one that differs in a letter, nothing."""
+    front.write_users(room, "scanner", "picker-1", "Picker-1", "picker-2", "watch-1")
+    bin, move = '{"key":"B-9","bin":"A-09","kind":"STORE"}', '{"key":"M-1","gtin":"%s","lot":"L/1","from":"A-01","to":"A-02","qty":1}' % GTIN
+    no = (403, '{"code":"P01"}')
+    for name, makes, moves, asks in (("picker-1", no, (409, '{"code":"U02"}'), 200), ("watch-1", no, no, 200), ("Picker-1", no, no, 403),
+                                     ("picker-2", no, no, 403)):
+        fields = [authorized(name)]
+        is_told("a bin of " + name, makes, posted("/bins", bin, *fields))
+        is_told("a move of " + name, moves, posted("/moves", move, *fields))
+        is_told("what %s asks" % name, [asks, asks], [shown(path, *fields)[0] for path in ("/books", "/health")])
+    for path in ("/holds", "/releases", "/recalls", "/leasts", "/items", "/bins", "/days", "/bins/", "//bins", "/%62ins", "/receipts/../bins", "/bins?x"):
+        is_told("POST %s of picker-1" % path, no, posted(path, bin, authorized("picker-1")))
+    is_told("the bin", (404, '{"code":"U02"}'), shown("/bins/A-09"))
+    is_told("with the name alone", 401, shown("/books", authorized("watch-1", "x"))[0])
+    print("  a name has the rights that are listed for it; another name has none", flush=True)
+
+
+def is_its_own():
+    """Only what the server needs comes to it; by another name of the machine nothing is answered; what the proxy tells a browser."""
+    many = ["X-%d: %d" % (it, it) for it in range(40)]
+    large = ["Cookie: a=" + "x" * 4500, "X-B: " + "y" * 4500]
+    for number, fields in enumerate((many, large, ["Content-Type: text/plain", "X-Forwarded-For: 192.0.2.1", "Expect: 100-continue"])):
+        body = '{"key":"H-%d","bin":"H-%d","kind":"HOLD"}' % (number, number)
+        is_told("further fields", 200, posted("/bins", body, USER, *fields)[0] if number < 2 else shown("/books", USER, *fields[:2])[0])
+    for host in ("other.example", "127.0.0.1", "localhost.other.example"):
+        text = head("GET /books HTTP/1.1", USER).replace(b"Host: localhost", b"Host: " + host.encode())
+        is_told("Host " + host, 421, through(text)[0])
+    for what, fields in (("an answer", [USER]), ("a refusal", [NO_ONE])):
+        told = whole(head("GET /books HTTP/1.1", *fields))[0]
+        for name in ("Strict-Transport-Security: max-age=31536000", "Content-Security-Policy: default-src 'none'", "X-Content-Type-Options: nosniff"):
+            is_told("%s in %s" % (name, what), True, name in told)
+        is_told("how a name is asked for in " + what, int(fields == [NO_ONE]), told.count("WWW-Authenticate: Basic"))
+    print("  no field of a client comes to the server; another name of the machine is refused", flush=True)
+
+
+def imported(name):
+    """The modules that a module of the page imports, before anything of it runs."""
+    with open(os.path.join(server.TOP, "ops/page", name), encoding="utf-8") as file:
+        paths = re.findall(r'^(?:import|export)\b[^;]*?"(\.[^"]+)";', file.read(), re.M)
+    return {os.path.normpath(os.path.join(os.path.dirname(name), it)) for it in paths}
+
+
+def is_packed():
+    """HTTP/2, packed where the client takes it, and every module named in the page's head."""
+    with connected(["h2", "http/1.1"]) as peer:
+        is_told("the protocol", "h2", peer.selected_alpn_protocol())
+    told, body = whole(head("GET /page/main.js HTTP/1.1", USER, "Accept-Encoding: gzip"))
+    with open(os.path.join(server.TOP, "ops/page/main.js"), "rb") as file:
+        is_told("main.js, packed", (True, file.read()), ("Content-Encoding: gzip" in told, gzip.decompress(joined(body))))
+    with open(os.path.join(server.TOP, "ops/page/index.html"), encoding="utf-8") as file:
+        named = set(re.findall(r'rel="modulepreload" href="([^"]+)"', file.read()))
+    modules, more = set(), {"main.js"}
+    while more:
+        modules |= more
+        more = {it for name in more for it in imported(name)} - modules
+    is_told("modules that index.html does not name, or names and has not", set(), (modules - {"main.js"}) ^ named)
+    print("  HTTP/2, packed; the page's head names each of its %d modules" % len(modules), flush=True)
+
+
+def is_not_guessed():
+    """Guesses of an address are answered 5 a second, and hold up nobody who knows the password."""
+    over = time.monotonic() + 6
+
+    def guesses(_):
+        told = []
+        while time.monotonic() < over:
+            told.append(shown("/books", NO_ONE)[0])
+        return told
+
+    with concurrent.futures.ThreadPoolExecutor(24) as clients:
+        made = [clients.submit(guesses, it) for it in range(24)]
+        time.sleep(2)
+        began = time.monotonic()
+        is_told("beside those who guess", 200, shown("/books")[0])
+        took = time.monotonic() - began
+        told = [status for it in made for status in it.result()]
+    is_told("answers to guesses", {401}, set(told))
+    # Those within 6 seconds, and the 24 that were on their way then.
+    if not 20 <= len(told) <= 5 * 6 + 24 + 6:
+        fail("guesses within 6 s", "5 a second", len(told))
+    if took > 2:
+        fail("beside those who guess", "an answer within 2 s", took)
+    is_told("who guesses nothing is asked at once", True, min(timed_401() for _ in range(3)) < 0.5)
+    print("  %d guesses were answered within 6 s, and the one who knows the password after %.2f s" % (len(told), took), flush=True)
+
+
+def timed_401():
+    began = time.monotonic()
+    is_told("without a password", 401, shown("/books", "Accept: */*")[0])
+    return time.monotonic() - began
+
+
+def is_open_beside(count):
+    """Clients that stop within the first bytes of TLS, and come anew when they are cut, take no place of others."""
+    halves, stop = [], threading.Event()
+
+    def crowd():
+        while not stop.is_set():
+            while len(halves) < count:
+                peer = socket.create_connection(("127.0.0.1", tls), timeout=10)
+                peer.sendall(bytes.fromhex("16030100f8010000f40303") + b"x" * 20)
+                peer.setblocking(False)
+                halves.append(peer)
+            for it in halves[:]:
+                try:
+                    if it.recv(1) == b"":
+                        halves.remove(it)
+                        it.close()
+                except BlockingIOError:
+                    pass
+                except OSError:
+                    halves.remove(it)
+                    it.close()
+            time.sleep(0.05)
+
+    thread = threading.Thread(target=crowd)
+    thread.start()
+    while len(halves) < count:
+        time.sleep(0.05)
+    try:
+        is_told("30 requests beside %d halves" % count, [200] * 30, [shown("/books")[0] for _ in range(30)])
+    finally:
+        stop.set()
+        thread.join()
+        for it in halves:
+            it.close()
+    print("  30 requests beside %d clients that stop within TLS: all were answered" % count, flush=True)
+
+
+def is_logged():
+    """Each request is a line of JSON; who received is in it, with what; and how long it took."""
+    with open(room + "/lotd.log", encoding="utf-8") as file:
+        lines = [json.loads(line) for line in file]
+    came = [json.loads(it["receipt"])["line"] for it in lines if it["target"] == "/receipts" and it["status"] == "200" and it["name"] == "scanner"]
+    is_told("the receipts in the log", [1, 2, 3], came)
+    is_told("bodies of others", set(), {it["receipt"] for it in lines if it["target"] != "/receipts"} - {""})
+    is_told("times", True, all(0 <= it["seconds"] < 60 for it in lines) and any(float(it["lotd_seconds"].split(",")[0] or 0) > 0 for it in lines))
+    print("  the log has %d lines of JSON" % len(lines), flush=True)
+
+
 def at_once(first, count):
     """So many orders by 32 clients at once. Gives their answers by their number."""
     with concurrent.futures.ThreadPoolExecutor(32) as clients:
@@ -206,10 +375,19 @@ try:
         is_guarded()
         is_whole()
         is_not_held_up()
+        is_told("health", 200, shown("/health")[0])
+        is_told("health by POST", 200, posted("/health", "{}")[0])
+        is_told("health without a password", 401, shown("/health", "Accept: */*")[0])
+        os.makedirs(room + "/state", exist_ok=True)
+        with open(room + "/state/lotd.prom", "w", encoding="utf-8") as file:
+            file.write("lotd_up 1\n")
+        is_told("metrics", (200, "lotd_up 1\n"), shown("/metrics", authorized("scanner")))
+        is_packed()
         answers = at_once(1, 300)
         are_acts("300 orders by 32 clients", answers, 6)
         are_there("300 orders", 300)
         print("  300 requests by 32 clients at once: each was done once", flush=True)
+    is_told("health without a server", 502, shown("/health")[0])
     with Service(20) as short:
         more = at_once(301, 200)
         again = {number: kept_up("/orders", order(number)) for number in range(301, 311)}
@@ -226,6 +404,14 @@ try:
         is_told("an order behind the copy", (200, '{"act":506,"short":2}'), kept_up("/orders", order(600)))
     restored(answers)
     print("  a copy taken between two runs was restored", flush=True)
+    is_logged()
+    with Service(1_000_000):
+        while shown("/stock/" + GTIN)[0] == 502:
+            time.sleep(0.05)
+        is_its_own()
+        has_rights()
+        is_open_beside(600)
+        is_not_guessed()
 finally:
     started.terminate()
     started.wait()

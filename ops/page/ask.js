@@ -1,6 +1,6 @@
 // What lotd shows, read: its JSON, and its texts as records.
 import { delay, refusal } from "./words.js";
-import { set, setting } from "./kept.js";
+import { say } from "./say.js";
 
 const LONGEST = 15000;                         // ms for an answer
 
@@ -11,14 +11,18 @@ export class Refused extends Error {
 /** Nothing that lotd said came. */
 export class NoAnswer extends Error {}
 
+/** How many requests this page has sent. */
+export const asked = { count: 0 };
+
 /** One request, and what came: its status, type and text. */
 export async function request(path, options) {
   const stop = new AbortController(), late = setTimeout(() => stop.abort(), LONGEST);
+  asked.count += 1;
   try {
     const answer = await fetch(location.origin + path, { cache: "no-store", redirect: "error", signal: stop.signal, ...options });
     return { status: answer.status, type: answer.headers.get("content-type") ?? "", text: await answer.text() };
   } catch (fault) {
-    throw new NoAnswer(fault.name === "AbortError" ? "No answer yet" : "No connection");
+    throw new NoAnswer(fault.name === "AbortError" ? say`No answer yet` : say`No connection`);
   } finally { clearTimeout(late); }
 }
 
@@ -40,23 +44,21 @@ export async function get(...parts) {
   throw new NoAnswer(delay(status, text));
 }
 
+/** Nothing where lotd refused to show it. */
+export const orNone = wanted => wanted.catch(fault => { if (fault instanceof Refused) return null; throw fault; });
+
 const nameIn = line => /^[A-Z ]+? \d{14} (.*)$/.exec(line)[1];
 const lines = text => text.split("\n").slice(0, -1);
 
 export const order = id => get("orders", id);
 export const stock = gtin => get("stock", gtin);
 
-/** What is to be taken for an order: each lot of it, with the bins that have it. */
-export async function pickList(id) {
-  const takes = [];
-  let gtin, least;
-  for (const words of lines(await get("picklists", id)).map(line => line.split(" "))) {
-    if (words[0] === "ITEM") [gtin, least] = [words[1], +words[11]];
-    else if (words[0] === "TAKE") takes.push({ gtin, least, lot: words[1], expiry: words[2], qty: +words[3], from: [] });
-    else if (words[0] === "FROM") takes.at(-1).from.push({ bin: words[1], qty: +words[2] });
-  }
-  return takes;
-}
+/** An order with what is to be taken for it: each lot, with the bins that have it, and the names of its items. */
+export const picks = order => get("picks", order);
+/** Where a lot came from, where it is, and whom it went to. */
+export const trace = (gtin, lot) => get("traces", gtin, lot);
+/** How the house stands, in numbers of one moment. */
+export const figures = () => get("figures");
 
 /** The orders that are short of an item. */
 export async function shortages(gtin) {
@@ -79,20 +81,10 @@ export async function notice(gtin, lot) {
   return { bins: found(/^BIN (\S+) (\d+)$/), shipments: found(/^SHIPMENT (\d+) (\S+) (\d+) (\S+) (.*)$/), inBins, shipped };
 }
 
-/** What a timer of the server left beside lotd, of the "day" or of the "copy"; null where nothing did. */
+/** What the proxy hands out beside lotd under this name, of a timer of the server ("day", "copy") or of the house; null where nothing is. */
 export async function told(name) {
   const { status, type, text } = await request(`/state/${name}.json`);
   if (status === 404) return null;
   if (status === 200 && type.startsWith("application/json")) return JSON.parse(text);
   throw new NoAnswer(delay(status, text));
-}
-
-/** A lot with its item's name, where that was read before. */
-export const lotWords = (lot, gtin) => [lot, setting("name/" + gtin) && `(${setting("name/" + gtin)})`].filter(Boolean).join(" ");
-
-/** The name of an item, which never changes; "" while it is not known. */
-export async function nameOf(gtin) {
-  let name = setting("name/" + gtin);
-  if (!name) try { name = (await shortages(gtin)).name; set("name/" + gtin, name); } catch { return ""; }
-  return name;
 }

@@ -1,4 +1,5 @@
 // Elements made of text alone. Nothing here reads HTML, so a name or a lot is shown as it is written.
+import { say } from "./say.js";
 
 function filled(it, attributes, children) {
   for (const [name, value] of Object.entries(attributes)) {
@@ -20,11 +21,11 @@ export const whole = words => words.split(/(?<= )/).map(it => (it.includes("-") 
 /** A button that does something and sends no form. */
 export const button = (words, onclick, attributes = {}) => tag("button", { type: "button", ...attributes, onclick }, words);
 
-/** Asks before something that cannot be taken back. Gives whether it is meant. */
-export function isMeant(question, yes) {
+/** Asks before something that cannot be taken back; `facts` stand below the question. Gives whether it is meant. */
+export function isMeant(question, yes, ...facts) {
   return new Promise(resolve => {
-    const box = tag("dialog", { onclose: () => { box.remove(); resolve(box.returnValue === "yes"); } }, tag("p", {}, question),
-      tag("div", { class: "pair" }, button("Back", () => box.close("no")), button(yes, () => box.close("yes"), { class: "danger" })));
+    const box = tag("dialog", { onclose: () => { box.remove(); resolve(box.returnValue === "yes"); } }, tag("p", {}, question), facts,
+      tag("div", { class: "pair" }, button(say`Back`, () => box.close("no")), button(yes, () => box.close("yes"), { class: "danger" })));
     document.body.append(box);
     box.showModal();
   });

@@ -2,34 +2,43 @@
 // held here only so that a slip is told at once: lotd judges.
 import { tag } from "./dom.js";
 import { bare, gtin, parts } from "./label.js";
-import { nameOf } from "./ask.js";
+import { nameOf } from "./names.js";
 import { clear, refuse } from "./told.js";
 import { setting } from "./kept.js";
 import { wasScanned } from "./scan.js";
 import { hits } from "./hits.js";
+import { dayInWords, grouped, say, separator } from "./say.js";
 
 const matches = rule => text => (rule.test(text) ? text : undefined);
 const number = (low, high, none) => text => (/^-?\d{1,9}$/.test(text) && text >= low && text <= high && +text !== none ? +text : undefined);
-const KEY = { read: matches(/^[A-Z0-9-]{1,20}$/), ask: "scan or type it", hint: "1 to 20 of A-Z 0-9 -", isUpper: true };
-const NAME = { read: matches(/^(?! )[ -~]{1,40}(?<! )$/), hint: "1 to 40 plain characters" };
-const COUNT = { read: number(1, 1000000), hint: "1 to 1,000,000", mode: "numeric", isByHand: true };
+/** Digits, with the mark of the language between thousands. */
+const plain = text => (new RegExp(`^\\d{1,3}(\\${separator || ","}\\d{3})+$`).test(text) ? text.replaceAll(separator, "") : text);
+/** Units as people write them: 288, 1,000, or 12x24 for twelve cases of 24. */
+const units = (low, high) => text => {
+  const [, cases, each] = /^(\d{1,6}) *[x*×] *(\d{1,6})$/i.exec(text) ?? [];
+  return number(low, high)(cases ? String(cases * each) : plain(text));
+};
+const product = text => { const [, cases, each] = /^(\d{1,6}) *[x*×] *(\d{1,6})$/i.exec(text) ?? []; return cases ? `${cases} × ${each} = ${grouped(cases * each)}` : ""; };
+const KEY = { read: matches(/^[A-Z0-9-]{1,20}$/), ask: say`scan or type it`, hint: say`1 to 20 of A-Z 0-9 -`, isUpper: true };
+const NAME = { read: matches(/^(?! )[ -~]{1,40}(?<! )$/), hint: say`1 to 40 plain characters` };
+const COUNT = { read: units(1, 1000000), ask: say`units, or 12x24`, hint: say`a whole number from 1 to 1,000,000, or cases as 12x24`, mode: "tel", isByHand: true, shows: product };
 
 const kinds = {
-  gtin: { label: "Item", ask: "scan, or a part of its name", hint: "scan, 14 digits, or a part of its name", read: gtin },
-  lot: { label: "Lot", hint: "scan its label", read: matches(/^[!"%-?A-Z_a-z]{1,20}$/) },
-  label: { label: "Label", hint: "scan it" },
-  bin: { label: "Bin", ...KEY }, from: { label: "From bin", ...KEY }, to: { label: "To bin", ...KEY },
-  order: { label: "Order", ...KEY }, delivery: { label: "Delivery", ...KEY },
-  line: { label: "Line", read: number(1, 9999), hint: "1 to 9,999", mode: "numeric", isByHand: true },
-  customer: { label: "Customer", ...NAME }, name: { label: "Name", ...NAME },
-  qty: { label: "Quantity", ...COUNT },
-  found: { label: "Units found", ...COUNT, read: number(0, 1000000), hint: "0 to 1,000,000" },
-  change: { label: "Change", hint: "below 0: written off", read: number(-1000000, 1000000, 0), isByHand: true },
-  days: { label: "Least days", hint: "0 to 3,650", read: number(0, 3650), mode: "numeric", isByHand: true },
-  day: { label: "New day", read: matches(/^2[01]\d\d-\d\d-\d\d$/), hint: "later than the last one", type: "date" },
-  bins: { label: "Bins", ask: "A-01, or A-01 A-24", hint: "one, or the first and the last: A-01 A-24" },
-  sign: { label: "Sign", read: matches(/^[A-Z0-9]{2,5}$/), hint: "2 to 5 letters or digits", isUpper: true, mode: "text", isTyped: true },
-  kind: { label: "Kind", choices: { STORE: "STORE, to sell", HOLD: "HOLD, set aside" } },
+  gtin: { label: say`Item`, ask: say`scan, or a part of its name`, hint: say`scan, 14 digits, or a part of its name`, read: gtin },
+  lot: { label: say`Lot`, ask: say`scan its label`, hint: say`scan its label`, read: matches(/^[!"%-?A-Z_a-z]{1,20}$/) },
+  label: { label: say`Label`, ask: say`scan it`, hint: say`scan it` },
+  bin: { label: say`Bin`, ...KEY }, from: { label: say`From bin`, ...KEY }, to: { label: say`To bin`, ...KEY },
+  order: { label: say`Order`, ...KEY }, delivery: { label: say`Delivery`, ...KEY },
+  line: { label: say`Line`, read: number(1, 9999), hint: say`1 to 9,999`, mode: "numeric", isByHand: true },
+  customer: { label: say`Customer`, ...NAME }, name: { label: say`Name`, ...NAME },
+  qty: { label: say`Quantity`, ...COUNT },
+  found: { label: say`Units found`, ...COUNT, read: units(0, 1000000), hint: say`a whole number from 0 to 1,000,000, or cases as 12x24` },
+  change: { label: say`Change`, hint: say`below 0: written off`, read: number(-1000000, 1000000, 0), isByHand: true },
+  days: { label: say`Days that must be left`, hint: say`0 to 3,650`, read: number(0, 3650), mode: "numeric", isByHand: true },
+  day: { label: say`New day`, read: matches(/^2[01]\d\d-\d\d-\d\d$/), hint: say`later than the last one`, type: "date", shows: text => (text ? dayInWords(text) : "") },
+  bins: { label: say`Bins`, ask: say`A-01, or A-01 A-24`, hint: say`one, or the first and the last: A-01 A-24` },
+  sign: { label: say`Initials`, read: matches(/^[A-Z0-9]{2,5}$/), hint: say`2 to 5 letters or digits`, isUpper: true, mode: "text", isTyped: true },
+  kind: { label: say`Kind`, choices: { STORE: say`for sale`, HOLD: say`set aside` } },
 };
 
 /** The rows that a refusal speaks of, the likeliest first; else the last row. */
@@ -51,6 +60,7 @@ function row(name, value = "", isNew = false) {
   field.addEventListener("input", () => {
     it.put(kind.isUpper && field.value !== field.value.toUpperCase() ? field.value.toUpperCase() : field.value);
     it.fault("");
+    if (kind.shows) it.say(kind.shows(field.value));
   });
   const keeps = name === "gtin" || name === "label";
   const it = { name, kind, field, told, node: tag("div", { class: keeps ? "row keeps" : "row" }, tag("label", { for: id }, kind.label), field, told) };
@@ -70,7 +80,7 @@ function row(name, value = "", isNew = false) {
   /** The value, or nothing, and the row says why. */
   it.check = () => {
     const value = it.read();
-    if (value === undefined || value === "") return it.fault(field.value ? "Not so: " + kind.hint : kind.hint ?? "");
+    if (value === undefined || value === "") return it.fault(field.value ? say`Not so: ${kind.hint}` : kind.hint ?? "");
     if (!kind.choices) it.put(String(value));
     return value;
   };
@@ -84,43 +94,58 @@ function row(name, value = "", isNew = false) {
   if (it.hits) it.node.append(it.hits.node);
   if (value !== "") it.put(value);
   if (keeps) it.say("");
+  if (kind.shows && value !== "") it.say(kind.shows(value));
   return it;
 }
 
 /** A form of rows by name. `done(values)` is called once all hold, and gives the number of the entry that it made; `label(text,
- *  parts)` has a label that the rows do not take; `back(values)` is told that the form has again what was refused. */
-export function form({ names, preset = {}, button, done, label, more, back, isNew }) {
-  let sent = null, isBack = false;               // what was sent last, as it was entered; whether that stands there again
+ *  parts)` has a label that the rows do not take; `back(values)` is told that the form has again what was refused. One that stands
+ *  `isAside` is gone to by a touch or Tab alone: no scan and no number falls into it. `warn(name, value)` has words against a value,
+ *  which goes on where it is entered once more. `knows({gtin, lot})` is told what stands in the rows of item and lot. */
+export function form({ names, preset = {}, button, done, label, more, back, isNew, isAside, warn, knows }) {
+  let warned = "", sent = null, isBack = false;               // what was sent last, as it was entered; whether that stands there again
   const all = Object.fromEntries(names.map(name => [name, row(name, preset[name], isNew)]));
   const list = Object.values(all), go = tag("button", { class: "go" }, button);
-  const showItem = async () => { if (all.gtin?.read()) all.gtin.say(await nameOf(all.gtin.read()) || "not known"); };
+  const showItem = async () => {
+    const gtin = all.gtin?.read();
+    knows?.({ gtin, lot: all.lot?.read() });
+    if (gtin) all.gtin.say(await nameOf(gtin) || say`not known`);
+  };
   const node = tag("form", {
     novalidate: true,
+    class: isAside ? "aside" : null,
     onlabel(event) {
       const found = parts(event.detail);
       clear();
       if (isBack) for (const each of list) if (!["delivery", "line", "label"].includes(each.name)) it.set({ [each.name]: "" });
       isBack = false;
       if (label) return label(event.detail, found, it);
-      if (!all.gtin || !found.gtin) return refuse("That is not asked here");
+      if (!all.gtin || !found.gtin) return refuse(found.doubt || say`That is not asked here`);
       all.gtin.put(found.gtin);
       if (all.lot && found.lot) all.lot.put(found.lot);
       showItem();
       it.next();
     },
-    ontaken() { it.next(); },
+    ontaken() { knows?.({ gtin: all.gtin?.read() }); it.next(); },
     onkeydown(event) {
       const at = list.find(each => each.field === event.target);
       if (event.key !== "Enter" || !at) return;
       event.preventDefault();
       if (at.kind.isByHand && wasScanned()) {
         at.field.value = "";
-        at.fault(`That was a scan: ${at.kind.label} is typed`);
-        return refuse(`A scan is no ${at.kind.label.toLowerCase()}`);
+        at.fault(say`That was a scan: ${at.kind.label} is typed`);
+        return refuse(say`A scan is no ${at.kind.label.toLowerCase()}`);
       }
       if (at.read() === undefined && at.hits?.enter()) return;
       if (at.check() === undefined) return refuse(`${at.kind.label}: ${at.kind.hint}`);
-      if (at.name === "gtin") showItem();
+      if (at.name === "gtin" || at.name === "lot") showItem();
+      const words = warn?.(at.name, at.read());
+      if (words && warned !== at.read()) {
+        warned = at.read();
+        at.field.select();
+        return refuse(...words);
+      }
+      warned = "";
       const next = list[list.indexOf(at) + 1];
       if (next) next.field.focus(); else node.requestSubmit();
     },

@@ -1,12 +1,13 @@
 // Items by a part of their name, below a field: what is typed shows up to six, and a touch, or Enter for the first, takes one.
 import { button, tag } from "./dom.js";
-import { itemsNamed } from "./lists.js";
+import { itemsNamed } from "./names.js";
+import { say } from "./say.js";
 
 const isName = text => /[a-z]/i.test(text) && text.length > 1;
 
 /** `take(gtin, name)` has the one that was chosen. The list lies over what is below, so nothing moves. */
 export function hits(field, take) {
-  const node = tag("ul", { class: "hits", hidden: true, "aria-label": "Items of that name" });
+  const node = tag("ul", { class: "hits", hidden: true, "aria-label": say`Items of that name` });
   let first = null, late = 0;
   const hide = () => { clearTimeout(late); first = null; node.hidden = true; };
   const choose = it => { hide(); take(it.gtin, it.name); };
@@ -17,7 +18,7 @@ export function hits(field, take) {
     if (field.value.trim() !== text) return;
     first = found[0] ?? null;
     node.replaceChildren(...found.slice(0, 6).map(it => tag("li", {}, button([tag("b", {}, it.name), tag("small", {}, it.gtin)], () => choose(it)))),
-      found.length > 6 && tag("li", {}, tag("small", {}, `${found.length - 6} more: type more of the name`)) || "");
+      found.length > 6 && tag("li", {}, tag("small", {}, say`${found.length - 6} more: type more of the name`)) || "");
     node.hidden = !found.length;
   }
   field.addEventListener("input", () => {

@@ -29,6 +29,13 @@ export async function send(path, body, words, line) {
   return id;
 }
 
+/** Keeps many acts at once, and sends them in their order: each as [route, values, words]. */
+export async function actAll(acts) {
+  for (const [route, values, words] of acts) await kept.keep({ path: "/" + route, body: JSON.stringify({ key: newKey(), ...values }), words, made: Date.now(), state: "waiting" });
+  await reread();
+  sendAll();
+}
+
 /** Sends an act under a new key. */
 export const act = (route, values, words) => send("/" + route, JSON.stringify({ key: newKey(), ...values }), words);
 
@@ -113,6 +120,10 @@ async function reread(isOwn = true) {
 
 export const lastTry = entry => tries.get(entry.id);
 export async function seen(entry) { await kept.keep({ ...entry, state: "seen" }); await reread(); }
+export async function allSeen() {
+  for (const entry of entries.filter(it => it.state === "refused")) await kept.keep({ ...entry, state: "seen" });
+  await reread();
+}
 export async function giveUp(entry) { await kept.drop(entry.id); await reread(); wake(); }
 
 export async function begin() {

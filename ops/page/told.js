@@ -40,6 +40,12 @@ export function refuse(words, more, code) {
   signal([[300, 0, 0.2], [200, 0.25, 0.35]], [150, 80, 150]);
 }
 
+/** What a person should know, and is no fault: amber, with a tone of its own. */
+export function warn(words, more) {
+  tell("wait", tag("b", {}, whole("! " + words)), more && tag("span", {}, whole(more)));
+  signal([[600, 0, 0.15], [600, 0.25, 0.15]], [80, 60, 80]);
+}
+
 export const wait = (words, more) => tell("wait", tag("b", {}, whole(words)), more && tag("span", {}, whole(more)));
 /** Another screen, or a label: what was told is over, unless it came just now. */
 export const clear = () => Date.now() - since > 1500 && place.replaceChildren();

@@ -1,5 +1,19 @@
 -- What comes of a query, told in bytes.
-use Rattle.house.proofs.Words.{◌≡◌, ℕ, List, refl, ap, sym, subst, ◌∙◌, inl, inr, ◌⊎◌, ℤ, Result, Ok, Err, Ghosts, Trees, state, Survives, Refusal, Act, IsHistory, answer_bytes, Answer, Text, Connected, Fault, Refused, Store, Foreign, HoldsBooks, MayLeave, IsClean, IsShown, no_memory, view_answer, fault_shown, asked_answer, IsWritten, IsTextOf, IsDone, IsUndone}
+use Rattle.house.proofs.Words.{◌≡◌, ℕ, List, refl, ap, sym, subst, ◌∙◌, inl, inr, ◌⊎◌, ℤ, Option, Some, None, Result, Ok, Err, Ghosts, Trees, state, Survives, Refusal, Act, IsHistory, answer_bytes, Answer, Text, Connected, Fault, Refused, Store, Foreign, HoldsBooks, MayLeave, IsClean, IsShown, no_memory, view_answer, fault_shown, asked_answer, IsWritten, IsTextOf, IsDone, IsUndone, whole, whole_asked}
+
+-- a view that is whole
+module _ {V : Type 0} where
+  as_view : (shown : Result V Refusal) (view : V) → whole shown ≡ Ok (Some view) → shown ≡ Ok view
+  as_view (Ok v) view is = let same : v ≡ view = cc in ap (λ (x : V). let r : Result V Refusal = Ok x in r) same
+  as_view (Err why) view is = absurd cc
+
+  never_none : (shown : Result V Refusal) → whole shown ≡ Ok None → ⊥
+  never_none (Ok v) is = cc
+  never_none (Err why) is = cc
+
+  as_refusal : (shown : Result V Refusal) (why : Refusal) → whole shown ≡ Err why → shown ≡ Err why
+  as_refusal (Ok v) why is = absurd cc
+  as_refusal (Err w) why is = let same : w ≡ why = cc in ap (λ (x : Refusal). let r : Result V Refusal = Err x in r) same
 
 -- the text of a view that is shown was written
 pub text_written : {V : Type 0} (text : V → List ℕ) (shown : Result V Fault) (view : V) (answer : Answer) → shown ≡ Ok view → answer ≡ Text (text view) → IsTextOf text shown (Ok answer)
@@ -55,3 +69,17 @@ module _ {S V : Type 0} (g : Ghosts S) (first : ℤ) (acts : List Act) (history 
   shown_told text is (Ok view) asked bytes h written told = text_told view (text view) asked bytes (is view) h written told
   shown_told text is (Err fault) asked bytes h written (inl told) = fault_told fault bytes h (inl (told ∙ ap asked_answer written))
   shown_told text is (Err fault) asked bytes h written (inr none) = fault_told fault bytes h (inr none)
+
+  whole_fault : (fault : Fault) → IsShown {V = Option V} g first acts (whole shown) (Err fault) books → IsShown {V = V} g first acts shown (Err fault) books
+  whole_fault (Refused why) h = (as_refusal shown why h.0, h.1)
+  whole_fault Store h = h
+  whole_fault Foreign h = h
+
+  -- a view that is whole is told, or why there is none
+  pub whole_told : (found : Result (Option V) Fault) (asked : Result Answer Fault) (bytes : List ℕ) → IsShown {V = Option V} g first acts (whole shown) found books → asked ≡ whole_asked answer found
+      → (bytes ≡ asked_answer asked) ⊎ (bytes ≡ no_memory) → IsDone g first acts old (view_answer answer shown) acts bytes books ⊎ IsUndone g first acts old acts bytes books
+  whole_told (Ok (Some view)) asked bytes h is (inl told) = view_told view bytes (as_view shown view h.0, h.1) (inl (told ∙ ap asked_answer is))
+  whole_told (Ok (Some view)) asked bytes h is (inr none) = view_told view bytes (as_view shown view h.0, h.1) (inr none)
+  whole_told (Ok None) asked bytes h is told = absurd (never_none shown h.0)
+  whole_told (Err fault) asked bytes h is (inl told) = fault_told fault bytes (whole_fault fault h) (inl (told ∙ ap asked_answer is))
+  whole_told (Err fault) asked bytes h is (inr none) = fault_told fault bytes (whole_fault fault h) (inr none)

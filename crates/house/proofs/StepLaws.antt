@@ -1,6 +1,6 @@
 -- What is true of every step over a text.
 use Rattle.std.specs.Fmt.{digits}
-use Rattle.house.proofs.Words.{◌≡◌, ◌≢◌, ℕ, true, false, ◌<◌, List, get_or, lit<, arith, refl, sym, ap, ◌∙◌, inl, inr, Bool, if◌then◌else◌, codes, Option, Some, None, Result, Ok, Err, ℤ, label_read, Label, LabelFault, refusal_code, Refusal, Key, Command, OrderView, StockView, books_shown, open_orders_shown, item_names_shown, expiring_shown, bin_shown, BooksView, BinView, ExpiringView, ItemNamesView, OpenOrdersView, Act, today, Outcome, Accepted, Repeated, outcome, appended, Tally, tally, file_outcome_of, acts_if_taken, order_shown, short_shown, stock_shown, card_shown, notice_shown, file_read, FileFault, rows_of, WireFault, Head, Length, Json, Field, Path, Method, TooLarge, Memory, Ask, Do, Scan, GoodsIn, Show, Query, Books, OpenOrders, ItemNames, Expiring, Bin, Order, Stock, PickList, Shortages, Card, Notice, Read, Need, Bad, Request, head_text, code_text, code_row_text, tally_text, BooksAnswer, OpenOrdersAnswer, ItemNamesAnswer, ExpiringAnswer, BinAnswer, OrderAnswer, StockAnswer, Text, pick_list_text, shortages_text, card_text, notice_text, status_of, short_answer, fault_answer, not_served, foreign_books, outcome_answer, is_served, act_answer, acts_with, Delivered, receipt, label_answer, scan_answer, acts_scanned, file_outcome_answer, file_fault_answer, file_answer, acts_filed, view_answer, query_answer, ask_answer, acts_asked, answer_of, acts_of, RefusedRequestsChangeNothing, BooksAreNeverForeign}
+use Rattle.house.proofs.Words.{◌≡◌, ◌≢◌, ℕ, true, false, ◌<◌, List, get_or, lit<, arith, refl, sym, ap, ◌∙◌, inl, inr, Bool, if◌then◌else◌, codes, Option, Some, None, Result, Ok, Err, ℤ, label_read, Label, LabelFault, refusal_code, Refusal, Key, Command, OrderView, StockView, books_shown, open_orders_shown, item_names_shown, expiring_shown, bin_shown, BooksView, BinView, ExpiringView, ItemNamesView, OpenOrdersView, Act, today, Outcome, Accepted, Repeated, outcome, appended, Tally, tally, file_outcome_of, acts_if_taken, order_shown, short_shown, stock_shown, card_shown, notice_shown, file_read, FileFault, rows_of, WireFault, Head, Length, Json, Field, Path, Method, TooLarge, Memory, Ask, Do, Scan, GoodsIn, Show, Query, Books, OpenOrders, ItemNames, Expiring, Bin, Order, Stock, PickList, Shortages, Card, Notice, Read, Need, Bad, Request, head_text, code_text, code_row_text, tally_text, BooksAnswer, OpenOrdersAnswer, ItemNamesAnswer, ExpiringAnswer, BinAnswer, OrderAnswer, StockAnswer, Text, PicksAnswer, FiguresAnswer, PicksView, FiguresView, picks_shown, figures_shown, Picks, Figures, pick_list_text, shortages_text, card_text, notice_text, status_of, short_answer, fault_answer, not_served, foreign_books, outcome_answer, is_served, act_answer, acts_with, Delivered, receipt, label_answer, scan_answer, acts_scanned, file_outcome_answer, file_fault_answer, file_answer, acts_filed, view_answer, query_answer, ask_answer, acts_asked, answer_of, acts_of, RefusedRequestsChangeNothing, BooksAreNeverForeign, Trace, TraceAnswer, TraceView, trace_shown}
 use Rattle.machine.specs.Once.{Refused}
 use Rattle.goodsin.specs.declared.fault.FileFault.TheVariants as file
 
@@ -135,10 +135,25 @@ unfolding head_text digits
 bin_not_foreign (Ok view) = other (view_answer BinAnswer (Ok view)) 50 refl (lit< tt)
 bin_not_foreign (Err why) = other (view_answer BinAnswer (Err why)) 52 refl (lit< tt)
 
+picks_not_foreign : (r : Result PicksView Refusal) → view_answer PicksAnswer r ≢ foreign_books
+unfolding head_text digits
+picks_not_foreign (Ok view) = other (view_answer PicksAnswer (Ok view)) 50 refl (lit< tt)
+picks_not_foreign (Err why) = other (view_answer PicksAnswer (Err why)) 52 refl (lit< tt)
+
+figures_not_foreign : (r : Result FiguresView Refusal) → view_answer FiguresAnswer r ≢ foreign_books
+unfolding head_text digits
+figures_not_foreign (Ok view) = other (view_answer FiguresAnswer (Ok view)) 50 refl (lit< tt)
+figures_not_foreign (Err why) = other (view_answer FiguresAnswer (Err why)) 52 refl (lit< tt)
+
 text_not_foreign : {V : Type 0} (text : V → List ℕ) (r : Result V Refusal) → view_answer (λ v. Text (text v)) r ≢ foreign_books
 unfolding head_text digits
 text_not_foreign text (Ok view) = other (view_answer (λ v. Text (text v)) (Ok view)) 50 refl (lit< tt)
 text_not_foreign text (Err why) = other (view_answer (λ v. Text (text v)) (Err why)) 52 refl (lit< tt)
+
+trace_not_foreign : (r : Result TraceView Refusal) → view_answer TraceAnswer r ≢ foreign_books
+unfolding head_text digits
+trace_not_foreign (Ok view) = other (view_answer TraceAnswer (Ok view)) 50 refl (lit< tt)
+trace_not_foreign (Err why) = other (view_answer TraceAnswer (Err why)) 52 refl (lit< tt)
 
 query_not_foreign : (first : ℤ) (acts : List Act) (q : Query) → query_answer first acts q ≢ foreign_books
 query_not_foreign first acts Books = books_not_foreign (books_shown first acts)
@@ -152,6 +167,9 @@ query_not_foreign first acts (PickList order) = text_not_foreign pick_list_text 
 query_not_foreign first acts (Shortages gtin) = text_not_foreign shortages_text (short_shown first acts gtin)
 query_not_foreign first acts (Card lot) = text_not_foreign card_text (card_shown first acts lot)
 query_not_foreign first acts (Notice lot) = text_not_foreign notice_text (notice_shown first acts lot)
+query_not_foreign first acts (Picks order) = picks_not_foreign (picks_shown first acts order)
+query_not_foreign first acts Figures = figures_not_foreign (figures_shown first acts)
+query_not_foreign first acts (Trace lot) = trace_not_foreign (trace_shown first acts lot)
 
 taken_not_foreign : (t : Tally) (o : Option (ℕ × Refusal)) → file_outcome_answer (file_outcome_of t o) ≢ foreign_books
 taken_not_foreign t None = ok_not_foreign (tally_text t.accepted t.repeated)

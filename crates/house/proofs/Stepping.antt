@@ -1,6 +1,6 @@
 -- What a reading, answered, is as a step.
 use Rattle.std.specs.Fmt.{digits}
-use Rattle.house.proofs.Words.{◌≡◌, ◌≢◌, ℕ, List, [], ◌∷◌, ◌++◌, refl, ap, sym, subst, ◌∙◌, inl, inr, ◌⊎◌, ℤ, Contains, codes, Contains-append_left, Contains-push, Ghosts, Trees, state, State, Act, IsHistory, IsReading, Ask, Show, Query, WireFault, Head, Length, Json, Field, Path, Method, TooLarge, Memory, Read, Need, Bad, Request, Connected, AreBooks, LeavesOnly, HoldsBooks, head_text, answer_bytes, Answer, BooksAnswer, OpenOrdersAnswer, ItemNamesAnswer, ExpiringAnswer, BinAnswer, OrderAnswer, StockAnswer, Text, fault_answer, ask_answer, acts_asked, status_of, IsDone, IsUndone, Step, StepsTo, IsOneFurther, LeavesBooks, IsLongIfOk, IsInPlace, IsAskedInPlace, Answered, Short, Long}
+use Rattle.house.proofs.Words.{PicksAnswer, FiguresAnswer, ◌≡◌, ◌≢◌, ℕ, List, [], ◌∷◌, ◌++◌, refl, ap, sym, subst, ◌∙◌, inl, inr, ◌⊎◌, ℤ, Contains, codes, Contains-append_left, Contains-push, Ghosts, Trees, state, State, Act, IsHistory, IsReading, Ask, Show, Query, WireFault, Head, Length, Json, Field, Path, Method, TooLarge, Memory, Read, Need, Bad, Request, Connected, AreBooks, LeavesOnly, HoldsBooks, head_text, answer_bytes, Answer, BooksAnswer, OpenOrdersAnswer, ItemNamesAnswer, ExpiringAnswer, BinAnswer, OrderAnswer, StockAnswer, Text, fault_answer, ask_answer, acts_asked, status_of, IsDone, IsUndone, Step, StepsTo, IsOneFurther, LeavesBooks, IsLongIfOk, IsInPlace, IsAskedInPlace, Answered, Short, Long, TraceAnswer}
 
 -- a text that is no request, or for which there was no memory
 needed_step : (first : ℤ) (acts : List Act) (text : List ℕ) (e : WireFault) → IsReading text (Need e) → Step first acts text (fault_answer e) acts
@@ -114,3 +114,6 @@ ok_status bytes (BinAnswer view) is = ap status_of is
 ok_status bytes (OrderAnswer view) is = ap status_of is
 ok_status bytes (StockAnswer view) is = ap status_of is
 ok_status bytes (Text text) is = ap status_of is
+ok_status bytes (PicksAnswer view) is = ap status_of is
+ok_status bytes (FiguresAnswer view) is = ap status_of is
+ok_status bytes (TraceAnswer view) is = ap status_of is

@@ -1,23 +1,28 @@
 -- What each reading of a text is answered, and the acts after it. An answer is its bytes.
 use Rattle.std.specs.Prelude.{ℕ, if◌then◌else◌, Bool, List, take, Option, Result, Ok, Err, ℤ}
-use Rattle.house.specs.Words.{LotId, label_read, refusal_code, Refusal, Key, Command, Act, today, Outcome, Accepted, Repeated, Refused, outcome, acts_after, is_key_of, FileOutcome, Taken, RefusedRow, file_outcome, acts_after_file, Ask, Do, Scan, GoodsIn, Show, Query, Read, Need, Bad, Request, answer_bytes, code_text, Answer, BooksAnswer, OpenOrdersAnswer, ItemNamesAnswer, ExpiringAnswer, BinAnswer, OrderAnswer, StockAnswer, Text}
+use Rattle.house.specs.Words.{LotId, label_read, refusal_code, Refusal, Key, Command, Act, today, Outcome, Accepted, Repeated, Refused, outcome, acts_after, is_key_of, FileOutcome, Taken, RefusedRow, file_outcome, acts_after_file, Ask, Do, Scan, GoodsIn, Show, Query, Read, Need, Bad, Request, answer_bytes, code_text, Answer, BooksAnswer, OpenOrdersAnswer, ItemNamesAnswer, ExpiringAnswer, BinAnswer, OrderAnswer, StockAnswer, Text, PicksAnswer, FiguresAnswer}
 use Rattle.label.specs.declared.gs1.Label.{Label}
 use Rattle.values.specs.declared.fault.LabelFault.{LabelFault}
 use Rattle.commands.specs.declared.key.Key.TheVariants.{Line}
 use Rattle.commands.specs.declared.command.Command.TheVariants.{Receive}
 use Rattle.machine.specs.Queries.{order_shown, short_shown, stock_shown, card_shown, notice_shown}
 use Rattle.overviews.specs.Shown.{books_shown, open_orders_shown, item_names_shown, expiring_shown, bin_shown}
+use Rattle.overviews.specs.Picks.{picks_shown}
+use Rattle.overviews.specs.Figures.{figures_shown}
+use Rattle.overviews.specs.Shown.{trace_shown}
 use Rattle.goodsin.specs.Faults.{file_fault_code}
 use Rattle.goodsin.specs.Files.{file_read}
 use Rattle.goodsin.specs.declared.fault.FileFault.{FileFault}
 use Rattle.goodsin.specs.declared.fault.FileFault.TheVariants.{Header, Row, TooManyRows, Length, Reader, Memory}
 use Rattle.store.specs.Filing.{rows_of}
-use Rattle.requests.specs.declared.ask.Query.TheVariants.{Books, OpenOrders, ItemNames, Expiring, Bin, Order, Stock, PickList, Shortages, Card, Notice}
+use Rattle.requests.specs.declared.ask.Query.TheVariants.{Books, OpenOrders, ItemNames, Expiring, Bin, Order, Stock, PickList, Shortages, Card, Notice, Picks, Figures}
 pub use Rattle.wire.specs.ShortAnswers.{short_answer, fault_answer, not_served, no_memory, foreign_books, label_answer, tally_answer, row_conflict, cause_answer, cause_row_answer}
 use Rattle.texts.specs.PickList.{pick_list_text}
 use Rattle.texts.specs.Shortages.{shortages_text}
 use Rattle.texts.specs.Card.{card_text}
 use Rattle.texts.specs.Notice.{notice_text}
+use Rattle.requests.specs.declared.ask.Query.TheVariants.{Trace}
+use Rattle.wire.specs.declared.answer.Answer.TheVariants.{Trace as TraceAnswer}
 
 -- the version and the status
 abbrev pub status_of : List ℕ → List ℕ
@@ -130,6 +135,15 @@ card_answer first acts l = view_answer (λ v. Text (card_text v)) (card_shown fi
 abbrev pub notice_answer : ℤ → List Act → LotId → List ℕ
 notice_answer first acts l = view_answer (λ v. Text (notice_text v)) (notice_shown first acts l)
 
+abbrev pub picks_answer : ℤ → List Act → List ℕ → List ℕ
+picks_answer first acts order = view_answer PicksAnswer (picks_shown first acts order)
+
+abbrev pub figures_answer : ℤ → List Act → List ℕ
+figures_answer first acts = view_answer FiguresAnswer (figures_shown first acts)
+
+abbrev pub trace_answer : ℤ → List Act → LotId → List ℕ
+trace_answer first acts l = view_answer TraceAnswer (trace_shown first acts l)
+
 abbrev pub query_answer : ℤ → List Act → Query → List ℕ
 query_answer first acts Books = books_answer first acts
 query_answer first acts (OpenOrders behind) = open_orders_answer first acts behind
@@ -142,6 +156,9 @@ query_answer first acts (PickList order) = pick_list_answer first acts order
 query_answer first acts (Shortages gtin) = shortages_answer first acts gtin
 query_answer first acts (Card lot) = card_answer first acts lot
 query_answer first acts (Notice lot) = notice_answer first acts lot
+query_answer first acts (Picks order) = picks_answer first acts order
+query_answer first acts Figures = figures_answer first acts
+query_answer first acts (Trace lot) = trace_answer first acts lot
 
 -- Requests. A label and a file are read at the business day.
 

@@ -1,5 +1,5 @@
 -- What the parts of a house do: the words of the functions below `answer`.
-use Rattle.std.specs.Prelude.{◌≡◌, ◌⊎◌, ℕ, List, Result, Ok, Err, ℤ}
+use Rattle.std.specs.Prelude.{◌≡◌, ◌⊎◌, ℕ, List, Option, Some, None, Result, Ok, Err, ℤ}
 use Rattle.house.specs.Words.{label_read, refusal_code, Key, Command, Ghosts, Trees, Act, IsHistory, today, answer_bytes, code_text, Answer, Text, Connected, Fault, Store, Foreign, AreBooks, HoldsBooks, MayLeave}
 use Rattle.store.specs.declared.reply.Reply.{Reply}
 use Rattle.store.specs.declared.tally.Tally.{Tally}
@@ -44,6 +44,12 @@ fault_shown Foreign = foreign_books
 abbrev pub asked_answer : Result Answer Fault → List ℕ
 asked_answer (Ok answer) = answer_bytes answer
 asked_answer (Err fault) = fault_shown fault
+
+-- the answer of a view that is whole; one that is not is of no books
+abbrev pub whole_asked : {V : Type 0} → (V → Answer) → Result (Option V) Fault → Result Answer Fault
+whole_asked answer (Ok (Some view)) = Ok (answer view)
+whole_asked answer (Ok None) = Err Foreign
+whole_asked answer (Err fault) = Err fault
 
 -- the text was written, or there was no memory for it
 abbrev pub IsWritten : List ℕ → Result Answer Fault → Type 0

@@ -24,4 +24,4 @@ pub use Rattle.requests.specs.declared.request.Read.TheVariants.{Need, Bad, Requ
 pub use Rattle.wire.specs.Answers.{answer_bytes}
 pub use Rattle.wire.specs.Shorts.{code_text}
 pub use Rattle.wire.specs.declared.answer.Answer.{Answer}
-pub use Rattle.wire.specs.declared.answer.Answer.TheVariants.{Books as BooksAnswer, OpenOrders as OpenOrdersAnswer, ItemNames as ItemNamesAnswer, Expiring as ExpiringAnswer, Bin as BinAnswer, Order as OrderAnswer, Stock as StockAnswer, Text}
+pub use Rattle.wire.specs.declared.answer.Answer.TheVariants.{Books as BooksAnswer, OpenOrders as OpenOrdersAnswer, ItemNames as ItemNamesAnswer, Expiring as ExpiringAnswer, Bin as BinAnswer, Order as OrderAnswer, Stock as StockAnswer, Text, Picks as PicksAnswer, Figures as FiguresAnswer}

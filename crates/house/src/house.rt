@@ -17,8 +17,9 @@ use crate::asking::{act, scan};
 use crate::filing::take_in;
 use crate::keeping::{KeepFault, Keeper};
 use crate::showing::{
-    show_bin, show_books, show_card, show_expiring, show_item_names, show_notice, show_open_orders,
-    show_order, show_pick_list, show_shortages, show_stock,
+    show_bin, show_books, show_card, show_expiring, show_figures, show_item_names, show_notice,
+    show_open_orders, show_order, show_pick_list, show_picks, show_shortages, show_stock,
+    show_trace,
 };
 use requests::{Ask, Query, Read, RouteTable, WireFault, read_request};
 use sqlite::Alter;
@@ -171,5 +172,8 @@ fn answer_ask<S: Alter>(alloc: Global, books: &mut Books<S>, ask: &Ask) -> Answe
         Ask::Show(Query::Shortages(gtin)) => show_shortages(alloc, books, gtin),
         Ask::Show(Query::Card(lot)) => show_card(alloc, books, lot),
         Ask::Show(Query::Notice(lot)) => show_notice(alloc, books, lot),
+        Ask::Show(Query::Picks(order)) => show_picks(alloc, books, *order),
+        Ask::Show(Query::Figures) => show_figures(alloc, books),
+        Ask::Show(Query::Trace(lot)) => show_trace(alloc, books, lot),
     }
 }

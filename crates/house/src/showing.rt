@@ -7,8 +7,9 @@ ghost use Rattle.wire.specs.Answers.{answer_bytes};
 ghost use Rattle.store.specs.Books.{IsClean, AreAsBefore};
 ghost use Rattle.texts.specs.PickList.{pick_list_text};
 ghost use Rattle.texts.specs.Shortages.{shortages_text};
-ghost use Rattle.house.specs.Answers.{books_answer, open_orders_answer, item_names_answer, expiring_answer, bin_answer, order_answer, stock_answer, pick_list_answer, shortages_answer, card_answer, notice_answer, no_memory};
-ghost use Rattle.house.specs.Asking.{Does, IsTextOf, asked_answer};
+ghost use Rattle.house.specs.Answers.{books_answer, open_orders_answer, item_names_answer, expiring_answer, bin_answer, order_answer, stock_answer, pick_list_answer, shortages_answer, card_answer, notice_answer, picks_answer, figures_answer, trace_answer, no_memory};
+ghost use Rattle.house.specs.Asking.{Does, IsTextOf, asked_answer, whole_asked};
+ghost use Rattle.wire.specs.declared.answer.Answer.TheVariants.{Trace as TraceAnswer};
 ghost use Rattle.house.specs.House.{bytes_of, IsLongIfOk};
 ghost use Rattle.house.specs.LotTexts.{text_answer};
 
@@ -17,6 +18,8 @@ use crate::answered::answer_query_fault;
 use crate::lot_texts::{write_card, write_notice};
 use commands::{Listed, OrderView, ShortView};
 use label::BusinessDay;
+use overviews::TraceView;
+use queries::{FiguresQuery, PicksQuery, TraceQuery};
 use requests::WireFault;
 use sqlite::Alter;
 use std::alloc::Global;
@@ -178,6 +181,54 @@ pub(crate) fn show_notice<S: Alter>(alloc: Global, books: &mut Books<S>, lot: &L
 {
     let (text, end) = write_notice(books, lot, Vec::new(alloc));
     answer_shown(alloc, text_of(text, end))
+}
+
+/// Shows the pick list of an order, with the names of its items.
+pub(crate) fn show_picks<S: Alter>(alloc: Global, books: &mut Books<S>, order: Name) -> Answered
+    ensures clean { IsClean S.Store books.new → IsClean S.Store books.old }
+    ensures shown { IsClean S.Store books.new → (first : ℤ) (acts : List Act) → IsHistory first acts
+        → Does S.Store first acts books.old (picks_answer first acts order) acts (bytes_of result) books.new }
+    ensures as_before { IsClean S.Store books.new → AreAsBefore S.Store books.old books.new }
+    ensures in_place { IsLongIfOk result }
+{
+    let shown = books.show(&PicksQuery { order }).map(Answer::Picks);
+    answer_shown(alloc, shown)
+}
+
+/// Shows the figures of the house.
+pub(crate) fn show_figures<S: Alter>(alloc: Global, books: &mut Books<S>) -> Answered
+    ensures clean { IsClean S.Store books.new → IsClean S.Store books.old }
+    ensures shown { IsClean S.Store books.new → (first : ℤ) (acts : List Act) → IsHistory first acts
+        → Does S.Store first acts books.old (figures_answer first acts) acts (bytes_of result) books.new }
+    ensures as_before { IsClean S.Store books.new → AreAsBefore S.Store books.old books.new }
+    ensures in_place { IsLongIfOk result }
+{
+    let shown = books.show(&FiguresQuery).map(Answer::Figures);
+    answer_shown(alloc, shown)
+}
+
+/// Shows the trace of a lot.
+pub(crate) fn show_trace<S: Alter>(alloc: Global, books: &mut Books<S>, lot: &LotId) -> Answered
+    ensures clean { IsClean S.Store books.new → IsClean S.Store books.old }
+    ensures shown { IsClean S.Store books.new → (first : ℤ) (acts : List Act) → IsHistory first acts
+        → Does S.Store first acts books.old (trace_answer first acts lot.now) acts (bytes_of result) books.new }
+    ensures as_before { IsClean S.Store books.new → AreAsBefore S.Store books.old books.new }
+    ensures in_place { IsLongIfOk result }
+{
+    let query = TraceQuery { lot: *lot };
+    let shown = books.show(&query);
+    answer_shown(alloc, trace_of(shown))
+}
+
+/// The trace, where it is whole.
+fn trace_of(shown: Result<Option<TraceView>, Fault>) -> Result<Answer, Fault>
+    ensures { result ≡ whole_asked TraceAnswer shown }
+{
+    match shown {
+        Ok(Some(view)) => Ok(Answer::Trace(view)),
+        Ok(None) => Err(Fault::Foreign),
+        Err(fault) => Err(fault),
+    }
 }
 
 /// The text that was written, where that is the whole.

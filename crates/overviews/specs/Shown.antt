@@ -8,10 +8,13 @@ use Rattle.overviews.specs.declared.lists.OpenOrdersView.{OpenOrdersView}
 use Rattle.overviews.specs.declared.lists.ItemNamesView.{ItemNamesView}
 use Rattle.overviews.specs.declared.lists.ExpiringView.{ExpiringView}
 use Rattle.overviews.specs.declared.lists.BinView.{BinView}
+use Rattle.overviews.specs.declared.trace.TraceView.{TraceView}
 use Rattle.machine.specs.Acts.{Act}
 use Rattle.machine.specs.Standing.{bin_named, item_named, lot_known, order_named, today}
 use Rattle.machine.specs.Queries.{if_known}
+use Rattle.machine.specs.Tables.{item_row}
 use Rattle.overviews.specs.Pages.{open_orders_view, item_names_view, expiring_view, bin_view}
+use Rattle.overviews.specs.Traces.{trace_view}
 
 -- never refused
 abbrev pub books_shown : ℤ → List Act → Result BooksView Refusal
@@ -33,3 +36,7 @@ abbrev pub bin_shown : ℤ → List Act → List ℕ → Option LotId → Result
 bin_shown first acts b None = if_known (bin_named acts b) UnknownBin (λ bin. Ok (bin_view first acts bin None))
 bin_shown first acts b (Some l) =
     if_known (bin_named acts b) UnknownBin (λ bin. if_known (lot_known acts l) UnknownLot (λ k. Ok (bin_view first acts bin (Some k))))
+
+-- of every lot that ever came, recalled or not
+abbrev pub trace_shown : ℤ → List Act → LotId → Result TraceView Refusal
+trace_shown first acts l = if_known (item_row acts l.gtin) UnknownItem (λ item. if_known (lot_known acts l) UnknownLot (λ k. Ok (trace_view first acts item k)))

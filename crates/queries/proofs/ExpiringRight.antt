@@ -57,7 +57,7 @@ module _ (first : ℤ) (acts : List Act) where
         once_keys is_lot is_lot_is is_lot_turned (λ (r : StagedRow). r.lot) staged_rows (with_keys is_lot (λ (r : StockRow). r.lot) stock_rows [])
         (once_keys is_lot is_lot_is is_lot_turned (λ (r : StockRow). r.lot) stock_rows [] refl)
 
-    in_house : AreInHouse first acts lot_rows stock_rows staged_rows
+    pub in_house : AreInHouse first acts lot_rows stock_rows staged_rows
     unfolding tables_of
     in_house = record {
       lots = rows_as {K = LotKey} same_lot lot_key is_lot_is is_lot_refl (λ l. any_stock l || any_staged l) (λ l. any_stock l || any_staged l) (λ l. any_stock l || any_staged l) (λ l. true) t.lot lot_rows (λ l e. e) (λ l e. refl)
@@ -118,7 +118,7 @@ module _ (first : ℤ) (acts : List Act) where
     pub is_page : listed ≡ map (known_row acts) (take (PAGE_MAX + 1) (expiring_lots first acts day last))
     pub of_page : AreOfLotsPage first acts day last rows
 
-  counted : (meta : MetaRow) → t.meta ≡ Some meta → length acts ≡ meta.acts
+  pub counted : (meta : MetaRow) → t.meta ≡ Some meta → length acts ≡ meta.acts
   unfolding tables_of
   counted meta is = ap (λ (r : MetaRow). r.acts) (same_Some (meta_row first acts) meta is)
 

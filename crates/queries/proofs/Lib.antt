@@ -16,3 +16,11 @@ pub mod ShipmentCards
 pub mod CardRead
 pub mod ShippedTold
 pub mod NoticeRight
+pub mod Telling
+mod Slashes
+mod OrdersSorted
+mod OfItem
+mod StagesTold
+mod TraceRight
+mod PicksRight
+mod FiguresRight

@@ -1,5 +1,5 @@
 -- The tables tell of the line of a shipment what the machine does.
-use Rattle.queries.proofs.Words.{◌≡◌, ◌<◌, ◌≤◌, ℕ, suc, ◌+◌, Bool, true, false, List, [], ◌∷◌, map, filter, find, reverse, length, Option, Some, None, inl, inr, refl, sym, ap, ◌∙◌, subst, arith, lit≤, ℤ, nat_eq, nat_le, if◌then◌else◌, option_map, is_some, AllByRecursion, nat_tests, reverse-append, IsPermutation-reverse, IsPermutation-sym, IsAscending, Has, all_has, all-append, all_weaker, all-filter, all_map, ascending-append, same_text, LotId, Key, Command, Order, Ship, Urgent, ACTS_MAX, OrderRow, ShiplineRow, ShipmentRow, ShippedUnits, Act, order_state, Placed, orders, order_named, has_order, shipments, shipments_after, shipments_so_far, shipment_row, tables_of, IsHistory, verdict, shipments_of_lot, shipped_units, has_shipped_units, customer_of, room_for_acts, ship_accepted, shipments_within_acts, same_number, itself_number, few_with_key, found_alike, with_order, with_shipment, units_told}
+use Rattle.queries.proofs.Words.{◌≡◌, ◌<◌, ◌≤◌, ℕ, suc, ◌+◌, Bool, true, false, List, [], ◌∷◌, map, find, reverse, length, Option, Some, None, inl, inr, refl, sym, ap, ◌∙◌, subst, arith, lit≤, ℤ, nat_eq, nat_le, if◌then◌else◌, option_map, is_some, AllByRecursion, nat_tests, reverse-append, IsPermutation-reverse, IsPermutation-sym, IsAscending, Has, all_has, all-append, all_weaker, all-filter, all_map, ascending-append, same_text, LotId, Key, Command, Order, Ship, Urgent, ACTS_MAX, OrderRow, ShiplineRow, ShipmentRow, ShippedUnits, Act, order_state, Placed, orders, order_named, has_order, shipments, shipments_after, shipments_so_far, shipment_row, tables_of, IsHistory, verdict, shipments_of_lot, shipped_units, has_shipped_units, customer_of, room_for_acts, ship_accepted, shipments_within_acts, same_number, itself_number, few_with_key, found_alike, with_order, with_shipment, units_told}
 
 pub all_reversed : {X : Type 0} (P : X → Type 0) (xs : List X) → AllByRecursion P xs → AllByRecursion P (reverse xs)
 all_reversed P [] all = tt

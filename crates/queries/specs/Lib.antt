@@ -14,3 +14,8 @@ pub mod ShownNames
 pub mod ShownNotice
 pub mod ShownExpiring
 pub mod ShownBin
+pub mod Telling
+pub mod Traced
+pub mod TraceRefused
+pub mod ShownPicks
+pub mod ShownFigures

@@ -10,7 +10,7 @@ use commands::{CardRow, ShiplineRow};
 
 /// The line of the shipment that this line of a card is of: the card refers to the shipment by its number, and the units
 /// went. `None` where the reference is no number of a shipment or units came, as in no books.
-pub(crate) fn shipline_of(card: &CardRow) -> Option<ShiplineRow>
+pub fn shipline_of(card: &CardRow) -> Option<ShiplineRow>
     ensures { (s : Line) → s.number ≤ ACTS_MAX → IsLineOf card.now s → result ≡ Some s }
 {
     let number = number_of(card.note.as_bytes())?;
@@ -25,7 +25,7 @@ pub(crate) fn shipline_of(card: &CardRow) -> Option<ShiplineRow>
 }
 
 // The number that is printed so, if one is.
-fn number_of(text: &[u8]) -> Option<u64>
+pub(crate) fn number_of(text: &[u8]) -> Option<u64>
     ensures { (n : ℕ) → n < 2 ^ 64 → text.now ≡ decimal n → result ≡ Some n }
 {
     match str::from_utf8(text) {

@@ -78,13 +78,13 @@ fn read_house_lots<S: Alter>(
 
 /// All stock, all that is staged, and the lots of these.
 #[derive(Drop)]
-struct House {
-    lots: Vec<LotRow>,
-    stock: Vec<StockRow>,
-    staged: Vec<StagedRow>,
+pub struct House {
+    pub lots: Vec<LotRow>,
+    pub stock: Vec<StockRow>,
+    pub staged: Vec<StagedRow>,
 }
 
-fn read_house<S: Alter>(
+pub fn read_house<S: Alter>(
     alloc: Global,
     tx: &mut Transaction<'_, S>,
     rows: &mut RowsKnown,

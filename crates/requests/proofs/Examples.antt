@@ -1,5 +1,6 @@
 -- Readings of some texts.
-use Rattle.requests.proofs.Words.{◌≡◌, codes, refl, [], ◌∷◌, Some, None, Ok, Err, option_map, negsuc, read, table, route_of, length_value, body_length, read_ask, second_segment, third_segment, inner_segment, fourth_segment, query_of, whole_at, delta_at, body_of, Plain, Item, Count, Least, Urgent, Length, Path, Field, TooLarge, Method as OtherMethod, Get, Post, PostTo, GetOf, Items, Bins, Receipts, Counts, Orders, Recalls, Days, Leasts, Urgents, GoodsIn, AnOrder, TheStock, APickList, TheShortages, Card, ANotice, Books, OpenOrders, OpenOrdersBehind, ItemNames, ItemNamesBehind, Expiring, ExpiringBehind, Bin, BinBehind, Do, FileOf, CardOf, OpenOrdersFrom, BinFrom}
+use Rattle.requests.proofs.Words.{◌≡◌, codes, refl, [], ◌∷◌, Some, None, Ok, Err, option_map, negsuc, read, table, route_of, length_value, body_length, read_ask, second_segment, third_segment, inner_segment, fourth_segment, query_of, whole_at, delta_at, body_of, Plain, Item, Count, Least, Urgent, Length, Path, Field, TooLarge, Method as OtherMethod, Get, Post, PostTo, GetOf, Items, Bins, Receipts, Counts, Orders, Recalls, Days, Leasts, Urgents, GoodsIn, AnOrder, TheStock, APickList, TheShortages, Card, ANotice, Books, OpenOrders, OpenOrdersBehind, ItemNames, ItemNamesBehind, Expiring, ExpiringBehind, Bin, BinBehind, Do, FileOf, CardOf, OpenOrdersFrom, BinFrom, PicksShown, PicksOf, Figures}
+use Rattle.requests.proofs.Words.{ATrace}
 use Rattle.serde_json.proofs.OnLiterals.{serde_json_on_literals}
 use Rattle.matchit.proofs.OnLiterals.{matchit_on_literals}
 use Rattle.percent_encoding.specs.Percent.{percent_decode}
@@ -176,6 +177,14 @@ pub lots_in_a_bin_are_not_posted : read_ask (codes "POST") (codes "/bins/A-01") 
 unfolding matchit_on_literals table
 lots_in_a_bin_are_not_posted = refl
 
+pub a_trace : route_of (codes "/traces/09506000134352/L2") ≡ Some (GetOf ATrace)
+unfolding matchit_on_literals table
+a_trace = refl
+
+pub a_trace_of_no_lot : route_of (codes "/traces/09506000134352") ≡ None
+unfolding matchit_on_literals table
+a_trace_of_no_lot = refl
+
 pub open_orders_are_not_posted : read_ask (codes "POST") (codes "/openorders") [] ≡ Err (OtherMethod Get)
 unfolding matchit_on_literals table
 open_orders_are_not_posted = refl
@@ -307,3 +316,29 @@ a_whole_number_with_a_point = refl
 pub a_whole_number_with_an_exponent : option_map (whole_at (codes "qty")) (read (codes "{\"qty\":1e2}")) ≡ Some None
 unfolding serde_json_on_literals
 a_whole_number_with_an_exponent = refl
+
+-- pick lists and figures
+
+pub the_picks_of_an_order : route_of (codes "/picks/S-1") ≡ Some (GetOf PicksShown)
+unfolding matchit_on_literals table
+the_picks_of_an_order = refl
+
+pub picks_of_no_order : route_of (codes "/picks/") ≡ None
+unfolding matchit_on_literals table
+picks_of_no_order = refl
+
+pub picks_are_posted : read_ask (codes "GET") (codes "/picks") [] ≡ Err (OtherMethod Post)
+unfolding matchit_on_literals table
+picks_are_posted = refl
+
+pub picks_by_a_name : query_of PicksShown (codes "/picks/S%2D1") ≡ Some (PicksOf (codes "S-1"))
+unfolding percent_decode
+picks_by_a_name = refl
+
+pub the_figures : route_of (codes "/figures") ≡ Some (GetOf Figures)
+unfolding matchit_on_literals table
+the_figures = refl
+
+pub figures_are_not_posted : read_ask (codes "POST") (codes "/figures") [] ≡ Err (OtherMethod Get)
+unfolding matchit_on_literals table
+figures_are_not_posted = refl

@@ -44,3 +44,6 @@ pub use Rattle.requests.specs.declared.routes.Posted.TheVariants.{Items, Bins, R
 pub use Rattle.requests.specs.declared.routes.Route.{Route}
 pub use Rattle.requests.specs.declared.routes.Route.TheVariants.{Post as PostTo, Get as GetOf}
 pub use Rattle.requests.specs.declared.routes.Shown.TheVariants.{Order as AnOrder, Stock as TheStock, PickList as APickList, Shortages as TheShortages, Card, Notice as ANotice, Books, OpenOrders, OpenOrdersBehind, ItemNames, ItemNamesBehind, Expiring, ExpiringBehind, Bin, BinBehind}
+pub use Rattle.requests.specs.declared.routes.Shown.TheVariants.{Trace as ATrace}
+pub use Rattle.requests.specs.declared.routes.Shown.TheVariants.{Picks as PicksShown, Figures}
+pub use Rattle.requests.specs.declared.ask.Query.TheVariants.{Picks as PicksOf}

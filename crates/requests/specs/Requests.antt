@@ -27,13 +27,15 @@ use Rattle.requests.specs.declared.fault.WireFault.TheVariants.{Head, Length, Js
 use Rattle.requests.specs.declared.routes.Route.{Route}
 use Rattle.requests.specs.declared.routes.Route.TheVariants.{Post, Get}
 use Rattle.requests.specs.declared.routes.Shown.{Shown}
-use Rattle.requests.specs.declared.routes.Shown.TheVariants.{Books, OpenOrders, OpenOrdersBehind, ItemNames, ItemNamesBehind, Expiring, ExpiringBehind, Bin, BinBehind, Stock, Order, PickList, Shortages, Card, Notice}
+use Rattle.requests.specs.declared.routes.Shown.TheVariants.{Picks, Figures, Books, OpenOrders, OpenOrdersBehind, ItemNames, ItemNamesBehind, Expiring, ExpiringBehind, Bin, BinBehind, Stock, Order, PickList, Shortages, Card, Notice}
+use Rattle.requests.specs.declared.routes.Shown.TheVariants.{Trace}
 use Rattle.requests.specs.declared.routes.Posted.{Posted}
 use Rattle.requests.specs.declared.routes.Posted.TheVariants.{GoodsIn as ToGoodsIn}
 use Rattle.requests.specs.declared.ask.Ask.{Ask}
 use Rattle.requests.specs.declared.ask.Ask.TheVariants.{GoodsIn, Show}
 use Rattle.requests.specs.declared.ask.Query.{Query}
-use Rattle.requests.specs.declared.ask.Query.TheVariants.{Books as AllBooks, OpenOrders as OpenOrdersFrom, ItemNames as ItemNamesFrom, Expiring as ExpiringFrom, Bin as BinFrom, Stock as StockOf, Order as OrderNamed, PickList as PickListOf, Shortages as ShortagesOf, Card as CardOf, Notice as NoticeOf}
+use Rattle.requests.specs.declared.ask.Query.TheVariants.{Picks as PicksOf, Figures as TheFigures, Books as AllBooks, OpenOrders as OpenOrdersFrom, ItemNames as ItemNamesFrom, Expiring as ExpiringFrom, Bin as BinFrom, Stock as StockOf, Order as OrderNamed, PickList as PickListOf, Shortages as ShortagesOf, Card as CardOf, Notice as NoticeOf}
+use Rattle.requests.specs.declared.ask.Query.TheVariants.{Trace as TraceOf}
 use Rattle.requests.specs.declared.request.Read.{Read}
 use Rattle.requests.specs.declared.request.Read.TheVariants.{Need, Bad, Request}
 
@@ -100,6 +102,9 @@ query_of PickList target = option_map PickListOf (name_in target)
 query_of Shortages target = option_map ShortagesOf (gtin_in target)
 query_of Card target = option_map CardOf (lot_in target)
 query_of Notice target = option_map NoticeOf (lot_in target)
+query_of Trace target = option_map TraceOf (lot_in target)
+query_of Picks target = option_map PicksOf (name_in target)
+query_of Figures target = Some TheFigures
 
 -- Steps 5 to 9: what a method, a target and a body ask.
 

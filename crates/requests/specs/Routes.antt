@@ -13,7 +13,8 @@ use Rattle.requests.specs.declared.method.Method.TheVariants.{Get, Post}
 use Rattle.requests.specs.declared.routes.Route.{Route}
 use Rattle.requests.specs.declared.routes.Route.TheVariants.{Post as PostTo, Get as GetOf}
 use Rattle.requests.specs.declared.routes.Posted.TheVariants.{Items, Bins, Receipts, Moves, Counts, Adjustments, Orders, Cancels, Picks, Unpicks, Shipments, Holds, Releases, Recalls, Days, Leasts, Urgents, GoodsIn}
-use Rattle.requests.specs.declared.routes.Shown.TheVariants.{Order, Stock, PickList, Shortages, Card, Notice, Books, OpenOrders, OpenOrdersBehind, ItemNames, ItemNamesBehind, Expiring, ExpiringBehind, Bin, BinBehind}
+use Rattle.requests.specs.declared.routes.Shown.TheVariants.{Picks as PicksShown, Figures, Order, Stock, PickList, Shortages, Card, Notice, Books, OpenOrders, OpenOrdersBehind, ItemNames, ItemNamesBehind, Expiring, ExpiringBehind, Bin, BinBehind}
+use Rattle.requests.specs.declared.routes.Shown.TheVariants.{Trace}
 
 -- the rows of a table
 abbrev pub Rows : Type 0
@@ -72,6 +73,9 @@ served =
     ∷ (codes "/expiring/{day}/{gtin}/{lot}", GetOf ExpiringBehind)
     ∷ (codes "/bins/{bin}", GetOf Bin)
     ∷ (codes "/bins/{bin}/{gtin}/{lot}", GetOf BinBehind)
+    ∷ (codes "/traces/{gtin}/{lot}", GetOf Trace)
+    ∷ (codes "/picks/{order}", GetOf PicksShown)
+    ∷ (codes "/figures", GetOf Figures)
     ∷ []
 
 unfoldable pub table : Rows

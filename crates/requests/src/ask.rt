@@ -27,6 +27,12 @@ pub enum Query {
     Card(LotId),
     /// The recall notice of a lot.
     Notice(LotId),
+    /// The trace of a lot.
+    Trace(LotId),
+    /// The pick list of an order, with the names of its items.
+    Picks(Name),
+    /// The figures of the house.
+    Figures,
 }
 
 /// What a request asks.

@@ -231,6 +231,9 @@ pub fn query_of(alloc: Global, shown: Shown, target: &[u8]) -> Result<Query, Wir
         Shown::Shortages => gtin_in(alloc, target).map(Query::Shortages),
         Shown::Card => lot_in(alloc, target).map(Query::Card),
         Shown::Notice => lot_in(alloc, target).map(Query::Notice),
+        Shown::Trace => lot_in(alloc, target).map(Query::Trace),
+        Shown::Picks => name_in(alloc, target).map(Query::Picks),
+        Shown::Figures => Ok(Query::Figures),
     }
 }
 

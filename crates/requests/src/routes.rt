@@ -49,6 +49,9 @@ pub enum Shown {
     Shortages,
     Card,
     Notice,
+    Trace,
+    Picks,
+    Figures,
 }
 
 /// A route, with the one method that it has.
@@ -96,6 +99,9 @@ pub static ROUTES: &[(&str, Route)] = &[
     ),
     ("/bins/{bin}", Route::Get(Shown::Bin)),
     ("/bins/{bin}/{gtin}/{lot}", Route::Get(Shown::BinBehind)),
+    ("/traces/{gtin}/{lot}", Route::Get(Shown::Trace)),
+    ("/picks/{order}", Route::Get(Shown::Picks)),
+    ("/figures", Route::Get(Shown::Figures)),
 ];
 
 // Adds a route. Nothing is added where there is no memory, or where it conflicts with another.

@@ -12,6 +12,7 @@ pub mod Queries
 pub mod Heads
 pub mod EachFaults
 pub mod Handing
+pub mod LotRows
 pub mod ActRows
 pub mod Knowing
 pub mod Fitting

@@ -58,6 +58,10 @@ GET /bins/A-01/09506000134353/L2 HTTP/1.1|| => W04
 GET /bins HTTP/1.1|| => W07
 POST /bins/A-01 HTTP/1.1|| => W07
 GET /stock HTTP/1.1|| => W06
+GET /traces/09506000134352/A%2FB HTTP/1.1|| => trace 09506000134352 A/B
+GET /traces/09506000134352 HTTP/1.1|| => W06
+GET /traces/09506000134353/L2 HTTP/1.1|| => W04
+POST /traces/09506000134352/L2 HTTP/1.1|| => W07
 GET /stock/09506000134353 HTTP/1.1|| => W04
 GET /stock/%zz HTTP/1.1|| => W04
 POST /stock/09506000134352 HTTP/1.1|| => W07
@@ -66,7 +70,16 @@ POST /items HTTP/1.1|| => W03
 POST /items HTTP/1.0|CONTENT-LENGTH: ␉000000056 ␉||{"key":"K-9","gtin":"09506000134352","name":"Oat drink"} => K/K-9 ITEM|09506000134352|Oat drink
 POST /items HTTP/1.1|Content-Length: 56||{"key":"K-9","gtin":"09506000134352","name":"Oat drink"}more => K/K-9 ITEM|09506000134352|Oat drink
 POST /receipts HTTP/1.1|Content-Length: 71||{"delivery":"D-1","line":2,"label":"]C101\u001d","bin":"A-01","qty":10} => D-1/2 ]C101␝ A-01 10
-GET /stock/09506000134352 HTTP/1.1|Host: a|| => stock 09506000134352"#;
+GET /stock/09506000134352 HTTP/1.1|Host: a|| => stock 09506000134352
+GET /picks/S-1 HTTP/1.1|| => picks S-1
+GET /picks/S%2D1 HTTP/1.1|| => picks S-1
+GET /picks/%zz HTTP/1.1|| => W04
+GET /picks/S-1/S-2 HTTP/1.1|| => W06
+GET /picks HTTP/1.1|| => W07
+POST /picks/S-1 HTTP/1.1|| => W07
+GET /figures HTTP/1.1|| => figures
+GET /figures/ HTTP/1.1|| => W06
+POST /figures HTTP/1.1|| => W07"#;
 
 // A path, a body that is posted to it, and the same of the request.
 static BODIES: &str =
@@ -176,6 +189,9 @@ fn push_query(rt: &impl Abort, text: &mut Vec<u8>, query: &Query) {
         Query::Shortages(gtin) => ("shortages ", gtin.as_bytes(), None),
         Query::Card(lot) => ("card ", lot.gtin.as_bytes(), Some(lot.lot)),
         Query::Notice(lot) => ("notice ", lot.gtin.as_bytes(), Some(lot.lot)),
+        Query::Trace(lot) => ("trace ", lot.gtin.as_bytes(), Some(lot.lot)),
+        Query::Picks(order) => ("picks ", order.as_bytes(), None),
+        Query::Figures => ("figures", b"".as_slice(), None),
     };
     push(rt, text, name.as_bytes());
     push(rt, text, first);

@@ -31,3 +31,7 @@ pub mod NamesShown
 mod ByItem
 pub mod BinPage
 mod BinShown
+mod LineItems
+mod PicksShown
+mod Counting
+mod FiguresShown

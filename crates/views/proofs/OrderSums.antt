@@ -1,5 +1,5 @@
 -- How the units of the lines of an order are summed.
-use Rattle.views.proofs.Words.{◌≡◌, ℕ, ◌+◌, ◌<◌, ◌≤◌, Bool, true, false, List, length, get_or, refl, ap, sym, subst, ◌∙◌, arith, ◌-◌, min, if◌then◌else◌, filter, same_text, total, LineRow, OrderRow, ReservedRow, StagedRow, CAP, capped, IsCapped, capped_none, capped_more, capped_all, total_given, line_units, no_units, with_units, of_order, order_units, OrderUnits}
+use Rattle.views.proofs.Words.{◌≡◌, ℕ, ◌+◌, ◌<◌, ◌≤◌, Bool, true, false, List, length, get_or, refl, ap, sym, subst, ◌∙◌, arith, min, if◌then◌else◌, filter, same_text, total, LineRow, OrderRow, ReservedRow, StagedRow, CAP, capped, IsCapped, capped_none, capped_more, capped_all, total_given, line_units, no_units, with_units, of_order, order_units, OrderUnits}
 
 -- the lines of an order tell its units
 pub units_of_own : (own lines : List LineRow) (staged : List StagedRow) (reserved : List ReservedRow) (o : OrderRow) → filter (λ l. same_text o.order l.order) own ≡ filter (λ l. same_text o.order l.order) lines

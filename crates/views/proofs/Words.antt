@@ -129,3 +129,20 @@ pub use Rattle.views.specs.declared.open_orders.OrderUnits.{OrderUnits}
 pub use Rattle.views.specs.declared.open_orders.ServedOrder.{ServedOrder}
 pub use Rattle.views.specs.declared.order_shorts.OrderShort.{OrderShort}
 pub use Rattle.views.specs.declared.stock.LotsShown.{LotsShown}
+pub use Rattle.machine.specs.Standing.{item_in}
+pub use Rattle.machine.proofs.Tests.{not_false}
+pub use Rattle.machine.proofs.histories.Accepted.{order_accepted, urgent_accepted}
+pub use Rattle.overviews.specs.Picks.{pick_line, picks_view}
+pub use Rattle.views.specs.GivenPicks.{with_item, pick_line_found, pick_line_seen, picks_seen}
+pub use Rattle.views.specs.ShownPicks.{AreLineItems}
+pub use Rattle.std.specs.Prelude.{count_by}
+pub use Rattle.commands.specs.declared.views.LotStatus.{LotStatus}
+pub use Rattle.machine.specs.Postings.{any_lot, balance, is_bin}
+pub use Rattle.machine.specs.Standing.{RETURNS}
+pub use Rattle.machine.proofs.histories.Cells.{without}
+pub use Rattle.machine.proofs.histories.PlaceRows.{bin_cells, stock_holds}
+pub use Rattle.plan.proofs.Running.{total_more}
+pub use Rattle.overviews.specs.Figures.{is_short_order, is_staged_order, shows_expired, shows_held, shows_recalled, lots_standing, lot_figures, open_figures, unit_figures, figures_view}
+pub use Rattle.overviews.specs.declared.lists.OpenOrder.{OpenOrder}
+pub use Rattle.views.specs.GivenFigures.{is_in_house, stands, lot_figures_seen, lots_counted, is_urgent_served, open_figures_seen, orders_counted, units_counted, stock_units, staged_units, figures_seen}
+pub use Rattle.views.specs.ShownFigures.{AreCounted}

@@ -14,3 +14,7 @@ pub mod GivenNames
 pub mod ShownNames
 pub mod GivenBin
 pub mod ShownBin
+pub mod GivenPicks
+pub mod ShownPicks
+pub mod GivenFigures
+pub mod ShownFigures

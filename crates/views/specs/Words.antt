@@ -58,3 +58,13 @@ pub use Rattle.views.specs.declared.open_orders.OrderUnits.{OrderUnits}
 pub use Rattle.views.specs.declared.open_orders.ServedOrder.{ServedOrder}
 pub use Rattle.views.specs.declared.order_shorts.OrderShort.{OrderShort}
 pub use Rattle.views.specs.declared.stock.LotsShown.{LotsShown}
+pub use Rattle.overviews.specs.declared.picks.PickLine.{PickLine}
+pub use Rattle.overviews.specs.declared.picks.PicksView.{PicksView}
+pub use Rattle.std.specs.Prelude.{count_by}
+pub use Rattle.commands.specs.declared.views.LotStatus.{LotStatus}
+pub use Rattle.machine.specs.Standing.{RETURNS}
+pub use Rattle.overviews.specs.Figures.{is_short_order, is_staged_order, shows_expired, shows_held, shows_recalled}
+pub use Rattle.overviews.specs.declared.figures.FiguresView.{FiguresView}
+pub use Rattle.overviews.specs.declared.figures.LotFigures.{LotFigures}
+pub use Rattle.overviews.specs.declared.figures.OpenFigures.{OpenFigures}
+pub use Rattle.overviews.specs.declared.figures.UnitFigures.{UnitFigures}

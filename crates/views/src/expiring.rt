@@ -48,8 +48,8 @@ fn is_up_to(day: Day, expiry: Day) -> bool
     !later
 }
 
-// The units of a lot in bins and on stages, by these rows.
-fn units_in_house(
+/// The units of a lot in bins and on stages, by these rows.
+pub fn units_in_house(
     lot: &LotId,
     stock: &RowsByKey<'_, LotId, StockRow>,
     staged: &RowsByKey<'_, LotId, StagedRow>,

@@ -84,8 +84,8 @@ fn push_listed(
     Ok(())
 }
 
-// The open orders behind the one that was seen last.
-fn orders_listed(
+/// The open orders behind the one that was seen last.
+pub fn orders_listed(
     alloc: Global,
     urgents: &RowsByKey<'_, Name, UrgentRow>,
     seen: &Option<ServedOrder>,
@@ -255,7 +255,8 @@ impl Make<ServedOrder, OpenOrder> for OrderShown<'_> {
     }
 }
 
-fn orders_shown(
+/// What is shown of orders, by these rows.
+pub fn orders_shown(
     alloc: Global,
     lines: &[LineRow],
     staged: &[StagedRow],

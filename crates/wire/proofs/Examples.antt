@@ -1,7 +1,7 @@
 -- Some answers.
 use Rattle.json.specs.Print.{escape_byte}
 use Rattle.std.specs.Fmt.{digits}
-use Rattle.wire.proofs.Words.{◌≡◌, ℕ, ℤ, List, codes, refl, ◌++◌, ◌∷◌, [], false, pos, Some, None, compact_text, Normal, Store, Free, BinLot, OpenOrder, NamedItem, books_data, open_orders_data, item_names_data, bin_view_data, date_of, date_after, date_in_year, reply_text, Returned, Post, head_text, answer_text, json_type, CRLF, cause_row_text, code_text}
+use Rattle.wire.proofs.Words.{BinUnits, Open, picks_data, figures_data, ◌≡◌, ℕ, ℤ, List, codes, refl, ◌++◌, ◌∷◌, [], false, pos, Some, None, compact_text, Normal, Store, Free, BinLot, OpenOrder, NamedItem, books_data, open_orders_data, item_names_data, bin_view_data, date_of, date_after, date_in_year, reply_text, Returned, Post, head_text, answer_text, json_type, CRLF, cause_row_text, code_text}
 
 pub a_day_is_opened : answer_text 200 json_type None (reply_text 6 (Some (Returned 0)))
     ≡ codes "HTTP/1.1 200 OK" ++ CRLF ++ codes "content-type: application/json" ++ CRLF ++ codes "content-length: 22" ++ CRLF
@@ -51,3 +51,46 @@ pub three_lots_in_a_bin : compact_text (bin_view_data (record { act = 10; bin = 
     ≡ codes "{\"act\":10,\"bin\":\"A-01\",\"kind\":\"STORE\",\"lots\":[{\"expiry\":\"2026-05-10\",\"gtin\":\"09506000134352\",\"lot\":\"L0\",\"name\":\"Oat drink\",\"qty\":5,\"status\":\"FREE\"},{\"expiry\":\"2026-05-31\",\"gtin\":\"09506000134352\",\"lot\":\"L2\",\"name\":\"Oat drink\",\"qty\":10,\"status\":\"FREE\"},{\"expiry\":\"2026-06-30\",\"gtin\":\"09506000134352\",\"lot\":\"L1\",\"name\":\"Oat drink\",\"qty\":10,\"status\":\"FREE\"}],\"more\":false}"
 unfolding digits escape_byte date_of date_after date_in_year
 three_lots_in_a_bin = refl
+
+abbrev from_bin : List ℕ → ℕ → BinUnits
+from_bin bin qty = record { bin = bin; qty = qty }
+
+-- a lot that lies in two bins, and a line of which all is short
+pub a_pick_list_of_two_lines : compact_text (picks_data (record {
+  customer = codes "Corner Shop";
+  lines = record {
+    item = record { gtin = codes "04012345000016"; name = codes "Rye bread" };
+    least = 30;
+    ordered = 4;
+    shipped = 0;
+    short = 4;
+    staged = 0;
+    take = [];
+  }
+      ∷ record {
+        item = oat_drink.item;
+        least = 0;
+        ordered = 12;
+        shipped = 1;
+        short = 0;
+        staged = 4;
+        take = record { lot = codes "L2"; expiry = pos 20604; qty = 7; bins = from_bin (codes "A-01") 6 ∷ from_bin (codes "A-02") 4 ∷ [] } ∷ [];
+      }
+      ∷ [];
+  order = codes "S-1";
+  state = Open;
+}))
+    ≡ codes "{\"customer\":\"Corner Shop\",\"lines\":[{\"gtin\":\"04012345000016\",\"least\":30,\"name\":\"Rye bread\",\"ordered\":4,\"shipped\":0,\"short\":4,\"staged\":0,\"take\":[]},{\"gtin\":\"09506000134352\",\"least\":0,\"name\":\"Oat drink\",\"ordered\":12,\"shipped\":1,\"short\":0,\"staged\":4,\"take\":[{\"bins\":[{\"bin\":\"A-01\",\"qty\":6},{\"bin\":\"A-02\",\"qty\":4}],\"expiry\":\"2026-05-31\",\"lot\":\"L2\",\"qty\":7}]}],\"order\":\"S-1\",\"state\":\"OPEN\"}"
+unfolding digits escape_byte date_of date_after date_in_year
+a_pick_list_of_two_lines = refl
+
+pub the_figures : compact_text (figures_data (record {
+  act = 48210;
+  day = pos 20577;
+  lots = record { expired = 1; held = 2; recalled = 3 };
+  open_orders = record { orders = 14; short = 4; staged = 5; urgent = 6 };
+  units = record { house = 7800; returns = 90 };
+}))
+    ≡ codes "{\"act\":48210,\"day\":\"2026-05-04\",\"lots\":{\"expired\":1,\"held\":2,\"recalled\":3},\"open\":{\"orders\":14,\"short\":4,\"staged\":5,\"urgent\":6},\"units\":{\"house\":7800,\"returns\":90}}"
+unfolding digits escape_byte date_of date_after date_in_year
+the_figures = refl

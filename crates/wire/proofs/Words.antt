@@ -60,3 +60,7 @@ pub use Rattle.wire.specs.Tokens.{Adds, data_tokens}
 pub use Rattle.wire.specs.Views.{order_data, stock_data}
 pub use Rattle.wire.specs.declared.serving.Taken.{Taken}
 pub use Rattle.wire.specs.declared.serving.Taken.TheVariants.{More, End, NoRoom}
+pub use Rattle.wire.specs.Picks.{take_data, picks_data}
+pub use Rattle.wire.specs.Figures.{figures_data}
+pub use Rattle.commands.specs.declared.rows.OrderState.TheVariants.{Open}
+pub use Rattle.commands.specs.declared.views.BinUnits.{BinUnits}

@@ -4,9 +4,13 @@ use Rattle.serde_json.specs.Written.{compact_text}
 use Rattle.requests.specs.Routes.{method_name}
 use Rattle.requests.specs.declared.method.Method.{Method}
 use Rattle.wire.specs.Lists.{books_data, open_orders_data, item_names_data, expiring_data, bin_view_data}
+use Rattle.wire.specs.Traces.{trace_data}
 use Rattle.wire.specs.Views.{order_data, stock_data}
+use Rattle.wire.specs.Picks.{picks_data}
+use Rattle.wire.specs.Figures.{figures_data}
 use Rattle.wire.specs.declared.answer.Answer.{Answer}
-use Rattle.wire.specs.declared.answer.Answer.TheVariants.{Books, OpenOrders, ItemNames, Expiring, Bin, Stock, Order, Text}
+use Rattle.wire.specs.declared.answer.Answer.TheVariants.{Books, OpenOrders, ItemNames, Expiring, Bin, Stock, Order, Text, Picks, Figures}
+use Rattle.wire.specs.declared.answer.Answer.TheVariants.{Trace}
 
 -- a phrase for each status that the server answers
 abbrev pub phrase : ℕ → List ℕ
@@ -52,3 +56,6 @@ answer_bytes (ItemNames v) = answer_text 200 json_type None (compact_text (item_
 answer_bytes (Expiring v) = answer_text 200 json_type None (compact_text (expiring_data v))
 answer_bytes (Bin v) = answer_text 200 json_type None (compact_text (bin_view_data v))
 answer_bytes (Text t) = answer_text 200 text_type None t
+answer_bytes (Trace v) = answer_text 200 json_type None (compact_text (trace_data v))
+answer_bytes (Picks v) = answer_text 200 json_type None (compact_text (picks_data v))
+answer_bytes (Figures v) = answer_text 200 json_type None (compact_text (figures_data v))

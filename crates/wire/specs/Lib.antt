@@ -2,8 +2,11 @@ pub mod Answers
 pub mod Shorts
 pub mod Views
 pub mod Lists
+pub mod Traces
 pub mod Laws
 pub mod ShortAnswers
 pub mod Serving
 pub mod Tokens
 pub mod Logging
+pub mod Picks
+pub mod Figures

@@ -4,13 +4,19 @@ ghost use Rattle.wire.specs.Answers.{phrase as phrase_lem, CRLF, json_type, allo
 use crate::bin::bin_json;
 use crate::books::books_json;
 use crate::expiring::expiring_json;
+use crate::figures::figures_json;
 use crate::item_names::item_names_json;
 use crate::open_orders::open_orders_json;
 use crate::order::order_json;
+use crate::picks::picks_json;
 use crate::stock::stock_json;
+use crate::trace::trace_json;
 use commands::{Buffer, Listed, OrderView, Short, StockView};
 use http::StatusCode;
-use overviews::{BinView, BooksView, ExpiringView, ItemNamesView, OpenOrdersView};
+use overviews::{
+    BinView, BooksView, ExpiringView, FiguresView, ItemNamesView, OpenOrdersView, PicksView,
+    TraceView,
+};
 use requests::Method;
 use std::alloc::{AllocError, Global};
 
@@ -128,6 +134,12 @@ pub enum Answer {
     Order(OrderView),
     /// A text that is written already.
     Text(Listed<u8>),
+    /// The trace of a lot, as JSON.
+    Trace(TraceView),
+    /// The pick list of an order, as JSON.
+    Picks(PicksView),
+    /// The figures of the house, as JSON.
+    Figures(FiguresView),
 }
 
 /// The bytes of an answer to a GET, of status 200. The only error is want of memory.
@@ -164,5 +176,17 @@ pub fn write_answer(alloc: Global, answer: &Answer) -> Result<Vec<u8>, AllocErro
             with_head(alloc, b"application/json", body.as_slice())
         }
         Answer::Text(text) => with_head(alloc, b"text/plain", text.as_slice()),
+        Answer::Trace(shown) => {
+            let body = trace_json(alloc, shown)?;
+            with_head(alloc, b"application/json", body.as_slice())
+        }
+        Answer::Picks(shown) => {
+            let body = picks_json(alloc, shown)?;
+            with_head(alloc, b"application/json", body.as_slice())
+        }
+        Answer::Figures(shown) => {
+            let body = figures_json(alloc, shown)?;
+            with_head(alloc, b"application/json", body.as_slice())
+        }
     }
 }

@@ -23,3 +23,11 @@ returns-in_ok-body-in-Bin c =
 
 pub returns-in-Text : goal.returns-in-Text
 returns-in-Text c = rw c.in-Text.is (search rules)
+
+pub returns-in_ok-body-in-Picks : goal.returns-in_ok-body-in-Picks
+returns-in_ok-body-in-Picks c =
+    rw c.in-Picks.is (subst (λ (body : List ℕ). IfOk c.with_head-in-Picks.result (λ b. b.items ≡ answer_text 200 json_type None body)) (c.as_slice-in-Picks.ensures.value ∙ c.in_ok-body-in-Picks.ensures) c.with_head-in-Picks.ensures)
+
+pub returns-in_ok-body-in-Figures : goal.returns-in_ok-body-in-Figures
+returns-in_ok-body-in-Figures c =
+    rw c.in-Figures.is (subst (λ (body : List ℕ). IfOk c.with_head-in-Figures.result (λ b. b.items ≡ answer_text 200 json_type None body)) (c.as_slice-in-Figures.ensures.value ∙ c.in_ok-body-in-Figures.ensures) c.with_head-in-Figures.ensures)

@@ -1,0 +1,16 @@
+use Rattle.wire.proofs.Adding.{adds_one, one_added, adds_last}
+use Rattle.wire.proofs.figures.put_figures.Goals as goal
+
+pub returns : goal.returns
+returns c =
+    rw (c.readable.ensures, c.as_slice.ensures, c.text-day.ensures, c.day.ensures.value) at
+    (adds_last c.end_object.result _ _ _ _ _ (one_added _ _ _ _ c.in_ok-begin_object.ensures)
+    (adds_last c.end_object.result _ _ _ _ _ c.in_ok-put_count.ensures
+    (adds_last c.end_object.result _ _ _ _ _ c.in_ok-put_text.ensures
+    (adds_last c.end_object.result _ _ _ _ _ (one_added _ _ _ _ c.in_ok-key.ensures)
+    (adds_last c.end_object.result _ _ _ _ _ c.in_ok-put_lots.ensures
+    (adds_last c.end_object.result _ _ _ _ _ (one_added _ _ _ _ c.in_ok-key-2.ensures)
+    (adds_last c.end_object.result _ _ _ _ _ c.in_ok-put_open.ensures
+    (adds_last c.end_object.result _ _ _ _ _ (one_added _ _ _ _ c.in_ok-key-3.ensures)
+    (adds_last c.end_object.result _ _ _ _ _ c.in_ok-put_units.ensures
+    (adds_one c.end_object.result _ _ _ c.end_object.ensures))))))))))

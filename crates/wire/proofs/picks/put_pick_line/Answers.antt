@@ -1,0 +1,16 @@
+use Rattle.wire.proofs.Adding.{adds_one, one_added, adds_last}
+use Rattle.wire.proofs.picks.put_pick_line.Goals as goal
+
+pub returns : goal.returns
+returns c =
+    rw (c.gtin_text.ensures, c.from.ensures, c.days.ensures.value, c.title_text.ensures, c.as_slice.ensures) at
+    (adds_last c.end_object.result _ _ _ _ _ (one_added _ _ _ _ c.in_ok-begin_object.ensures)
+    (adds_last c.end_object.result _ _ _ _ _ c.in_ok-put_text.ensures
+    (adds_last c.end_object.result _ _ _ _ _ c.in_ok-put_count.ensures
+    (adds_last c.end_object.result _ _ _ _ _ c.in_ok-put_text-2.ensures
+    (adds_last c.end_object.result _ _ _ _ _ c.in_ok-put_count-2.ensures
+    (adds_last c.end_object.result _ _ _ _ _ c.in_ok-put_count-3.ensures
+    (adds_last c.end_object.result _ _ _ _ _ c.in_ok-put_count-4.ensures
+    (adds_last c.end_object.result _ _ _ _ _ c.in_ok-put_count-5.ensures
+    (adds_last c.end_object.result _ _ _ _ _ c.in_ok-put_takes.ensures
+    (adds_one c.end_object.result _ _ _ c.end_object.ensures))))))))))
