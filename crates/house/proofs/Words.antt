@@ -109,7 +109,7 @@ pub use Rattle.wire.proofs.LogLines.{line_of_beginning, begun_by}
 pub use Rattle.house.specs.Answers.{short_answer, outcome_answer, not_served, is_served, act_answer, acts_with, Delivered, scan_answer, acts_scanned, receipt, acts_filed, acts_asked, acts_of, no_memory, answer_of, cause_answer, file_outcome_answer, file_fault_answer, file_answer, fault_answer, status_of, view_answer, foreign_books, label_answer, query_answer, ask_answer, cause_row_answer}
 pub use Rattle.house.specs.Asking.{told_answer, IsDone, IsUndone, scanned_answer, scanned_acts, told_file_answer, asked_answer, fault_shown, IsWritten, IsTextOf, act_of, delivered}
 pub use Rattle.house.specs.Asking.{whole_asked}
-pub use Rattle.queries.specs.Traced.{whole}
+pub use Rattle.queries.specs.ShownNotice.{whole}
 pub use Rattle.house.specs.House.{Step, Run, IsInPlace, bytes_of, Answers, LeavesBooks, StepsTo, RunsTo, texts_of, IsOneFurther, IsLongIfOk, IsAskedInPlace, books_of}
 pub use Rattle.house.specs.Keeping.{TellsNoAct, NoHistory, IsKeptIfTold}
 pub use Rattle.house.specs.Laws.{RefusedRequestsChangeNothing, BooksAreNeverForeign}
