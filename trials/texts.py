@@ -1,6 +1,6 @@
-"""Long texts by the lines of lotd: a stock card of 100,000 lines and the recall notice of its lot, and a notice of 10,000
-shipments, byte for byte as the format says, in the memory that the open books take anyway; and both into an output that is
-full. The rows are set by python's sqlite3. Needs the Rattle kit, and takes half a minute.
+"""Long texts by the lines of lotd: a stock card of 100,000 lines, in the memory that the open books take anyway, and a recall
+notice of 10,000 shipments, byte for byte as the format says; and both into an output that is full. The rows are set by
+python's sqlite3. Needs the Rattle kit, and takes half a minute.
 Exit status 0 only if every byte, every exit status and every peak of memory was as it must be.
 """
 import os
@@ -16,8 +16,8 @@ OATS, OTHER = "09506000134352", "04012345000016"
 DAY, DAY_TEXT = 20577, "2026-05-04"
 # What two runs may differ by, in KiB. The 100,000 lines are 8 MB as text.
 SLACK = 1_024
-# What a notice may take beside, in KiB: the rows of 1,000 bins, which are read together.
-ROWS = 2_048
+# What the rows of a notice of 10,000 shipments and 1,000 bins may take beside, in KiB.
+ROWS = 8_192
 
 
 def fail(what, expected, got):
@@ -160,13 +160,12 @@ def checked(name, counts):
 
 
 short_db, short_card, short_notice = checked("short", (200, 10, 100))
-long_db, long_card, many_lines = checked("long", (100_000, 10, 100))
+long_db, long_card, _ = checked("long", (100_000, 10, 100))
 _, _, long_notice = checked("shipped", (10_100, 1_000, 10_000))
 if long_card > max(short_card, 0) + SLACK:
     fail("the memory of a card", "at most %d KiB more" % (max(short_card, 0) + SLACK), long_card)
-for notice in (many_lines, long_notice):
-    if notice > max(short_notice, 0) + ROWS:
-        fail("the memory of a notice", "at most %d KiB more" % (max(short_notice, 0) + ROWS), notice)
+if long_notice > max(short_notice, 0) + ROWS:
+    fail("the memory of a notice", "at most %d KiB more" % (max(short_notice, 0) + ROWS), long_notice)
 
 with open("/dev/full", "wb") as full:
     for line in ("card", "notice"):

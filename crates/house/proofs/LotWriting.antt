@@ -1,5 +1,5 @@
--- The stock card and the recall notice of a lot, written part after part.
-use Rattle.house.proofs.Words.{◌≡◌, ℕ, ◌+◌, List, ◌++◌, Option, Some, None, Ok, Err, Result, refl, sym, ap, subst, ◌∙◌, inl, inr, append_assoc, ℤ, flat_map, Appends, Appends-trans, LotId, rest_after, Refusal, UnknownItem, UnknownLot, ItemRow, CardView, Ghosts, state, Survives, Act, IsHistory, lot_units_in_house, KnownLot, lots, lot_known, item_row, if_known, card_shown, card_of_lot, card_view, found_lot, last_line_tells_units, TextFault, card_text, card_start, card_line, card_end, AppendsBeginning, Writes, beginning_of_first, beginning_of_second, Connected, HoldsBooks, IsClean, IsHanded, NoBooks, head_of_card, card_head_shown, Refused, Store, Foreign, EachFault, Stopped, card_from, Stays, Puts, Tells, shown_text, stopped_at, zero-add, OnOk, total, BinUnits, ShippedUnits, bins_of_lot, shipments_of_lot, notice_text, notice_start, bin_line, shipment_line, notice_end, Totals, AddsBinLine, AddsShipmentLine, CutsShipmentLine, NoticeLines, bins_lined, shipments_lined, HandsRecords, Reaches, notice_of}
+-- The stock card of a lot, written part after part, and texts that are written at once.
+use Rattle.house.proofs.Words.{◌≡◌, ℕ, ◌+◌, List, ◌++◌, Option, Some, None, Ok, Err, Result, refl, sym, ap, subst, ◌∙◌, inl, inr, append_assoc, ℤ, flat_map, Appends, Appends-trans, LotId, rest_after, Refusal, UnknownItem, UnknownLot, ItemRow, CardView, Ghosts, state, Survives, Act, IsHistory, lot_units_in_house, KnownLot, lots, lot_known, item_row, if_known, card_shown, card_of_lot, card_view, found_lot, last_line_tells_units, TextFault, card_text, card_start, card_line, card_end, AppendsBeginning, Writes, beginning_of_first, beginning_of_second, Connected, HoldsBooks, IsClean, IsHanded, NoBooks, head_of_card, card_head_shown, Refused, Store, Foreign, EachFault, Stopped, card_from, Stays, Puts, Tells, shown_text, stopped_at}
 use Rattle.store.specs.declared.each_fault.EachFault.TheVariants.{Fault}
 use Rattle.house.proofs.Handing.{all_written, some_written, cut_written}
 
@@ -87,18 +87,16 @@ module _ {S : Type 0} (g : Ghosts S) (first : ℤ) (acts : List Act) where
   told_whole text shown view a b r was mid books old between new is whole stays written h =
       told_by text shown view r was books old new is (subst (λ t. Puts g first acts t was books old new r) whole (put_behind r a b was mid books old between new written stays h))
 
+  -- it was written by one call
+  pub told_at_once : {V : Type 0} (text : V → List ℕ) (shown : Result V Refusal) (view : V) (r : Result Unit TextFault) (was books : Connected S) (old new : Option (List ℕ)) → shown ≡ Ok view
+      → Stays g first acts was books → Writes r old new (text view) → Tells g first acts text shown was books old new (stopped_at r)
+  told_at_once text shown view (Ok done) was books old new is stays written = (view, is, written, stays)
+  told_at_once text shown view (Err fault) was books old new is stays written = (view, is, written, stays)
+
   -- its start was not written whole
   pub told_cut : {V : Type 0} (text : V → List ℕ) (shown : Result V Refusal) (view : V) (a b : List ℕ) (was books : Connected S) (old new : Option (List ℕ))
       → shown ≡ Ok view → a ++ b ≡ text view → Stays g first acts was books → AppendsBeginning old new a → Tells g first acts text shown was books old new (Err Stopped)
   told_cut text shown view a b was books old new is whole stays written = (view, is, subst (AppendsBeginning old new) whole (beginning_of_first old new a b written), stays)
-
--- the units of the bins and of the shipments that a notice tells of
-pub both_counted : {W : Type 0} (at : W → Option (List ℕ)) (r : Result Unit EachFault) (bins : List BinUnits) (shipments : List ShippedUnits) (before between after : NoticeLines W)
-    → Reaches (AddsBinLine at) before bins between → HandsRecords (AddsShipmentLine at) (CutsShipmentLine at) shipments between after r
-    → OnOk r (after.text ≡ record { in_bins = before.text.in_bins + total (λ u. u.qty) bins; shipped = before.text.shipped + total (λ s. s.qty) shipments })
-both_counted at (Ok done) bins shipments before between after reached h =
-    (shipments_lined at between shipments after h).1 ∙ ap (λ (t : Totals). record t { shipped = t.shipped + total (λ s. s.qty) shipments }) (bins_lined at before bins between reached).1
-both_counted at (Err fault) bins shipments before between after reached h = tt
 
 -- Cards
 
@@ -142,21 +140,3 @@ module _ (first : ℤ) (acts : List Act) (l : LotId) where
       let lines = card_of_lot first acts l in
       sym (append_assoc (card_start item l.lot expiry) (flat_map card_line lines) (card_end (rest_after n lines)))
       ∙ ap (λ m. card_start item l.lot expiry ++ flat_map card_line lines ++ card_end m) (ap (λ m. rest_after m lines) none ∙ last_line_tells_units first acts l)
-
-  -- Notices
-
-  -- the start, the bins, the shipments and the end are the notice
-  pub notice_whole : (item : ItemRow) (expiry : Option ℤ) (t : Totals) → t ≡ record { in_bins = 0; shipped = 0 }
-      → notice_start item l.lot expiry ++ (flat_map bin_line (bins_of_lot first acts l) ++ flat_map shipment_line (shipments_of_lot first acts l)
-      ++ notice_end (t.in_bins + total (λ u. u.qty) (bins_of_lot first acts l)) (t.shipped + total (λ s. s.qty) (shipments_of_lot first acts l)))
-      ≡ notice_text (notice_of first acts l item expiry)
-  notice_whole item expiry t none =
-      let head = notice_start item l.lot expiry in
-      let b = flat_map bin_line (bins_of_lot first acts l) in
-      let s = flat_map shipment_line (shipments_of_lot first acts l) in
-      let n = total (λ u. u.qty) (bins_of_lot first acts l) in
-      let m = total (λ x. x.qty) (shipments_of_lot first acts l) in
-      let end = notice_end (t.in_bins + n) (t.shipped + m) in
-      sym (append_assoc head (b ++ s) end) ∙ sym (ap (λ k. k ++ end) (append_assoc head b s))
-      ∙ ap (λ (x : Totals). head ++ b ++ s ++ notice_end (x.in_bins + n) (x.shipped + m)) none
-      ∙ ap (λ k. head ++ b ++ s ++ notice_end k (0 + m)) (zero-add n) ∙ ap (λ k. head ++ b ++ s ++ notice_end n k) (zero-add m)

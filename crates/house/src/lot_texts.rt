@@ -1,21 +1,21 @@
-//! The stock card and the recall notice of a lot, written row by row: no call takes memory that grows with the lot's past.
+//! The stock card of a lot, written row by row: no call takes memory that grows with its rows. And the recall notice of a
+//! lot, which is read as a whole, of one moment, and then written.
 
-ghost use Rattle.std.specs.Prelude.{◌≡◌, ◌+◌, ℤ, List, ◌++◌, flat_map, OnOk};
+ghost use Rattle.std.specs.Prelude.{◌≡◌, ℤ, List, ◌++◌, flat_map};
 ghost use Rattle.commands.specs.Cards.{rest_after};
-ghost use Rattle.commands.specs.Lists.{total};
 ghost use Rattle.machine.specs.Acts.{Act};
 ghost use Rattle.machine.specs.Once.{IsHistory};
 ghost use Rattle.machine.specs.Queries.{card_shown, notice_shown};
-ghost use Rattle.machine.specs.Views.{card_of_lot, bins_of_lot, shipments_of_lot};
+ghost use Rattle.machine.specs.Views.{card_of_lot};
 ghost use Rattle.texts.specs.Card.{card_text, card_line, card_end};
-ghost use Rattle.texts.specs.Notice.{notice_text, bin_line, shipment_line, notice_end};
+ghost use Rattle.texts.specs.Notice.{notice_text};
 ghost use Rattle.store.specs.Books.{IsClean, HoldsBooks, AreAsBefore};
 ghost use Rattle.house.specs.LotTexts.{Puts, Tells, stopped_at};
 
 use sqlite::Alter;
 use std::io::Write;
 use store::{Books, EachFault};
-use texts::{CardLines, CardText, NoticeLines, NoticeText, TextFault};
+use texts::{CardLines, CardText, TextFault, recall_notice};
 use values::LotId;
 
 /// Writes the stock card of a lot: all of it at `Ok`. An item that is not known is refused (U01), and then a lot that
@@ -80,60 +80,13 @@ pub fn write_notice<S: Alter, W: Write>(
         → Tells S.Store first acts notice_text (notice_shown first acts lot.now) books.old books.new (W.contents out) (W.contents result.0) result.1 }
 {
     let mut out = out;
-    match books.notice_head(lot) {
-        Ok((item, expiry)) => match NoticeText::start(&item, &lot.lot, expiry, &mut out) {
-            Ok(text) => put_notice(books, lot, text, out),
-            Err(_) => (out, Err(EachFault::Stopped)),
-        },
-        Err(fault) => (out, Err(EachFault::Fault(fault))),
-    }
-}
-
-// The bins, the shipments and the end.
-fn put_notice<S: Alter, W: Write>(
-    books: &mut Books<S>,
-    lot: &LotId,
-    text: NoticeText,
-    out: W,
-) -> (W, Result<(), EachFault>)
-    ensures clean { IsClean S.Store books.new → IsClean S.Store books.old }
-    ensures as_before { IsClean S.Store books.new → AreAsBefore S.Store books.old books.new }
-    ensures put { IsClean S.Store books.new → (first : ℤ) (acts : List Act) → IsHistory first acts → HoldsBooks S.Store first acts books.old
-        → Puts S.Store first acts (flat_map bin_line (bins_of_lot first acts lot.now) ++ flat_map shipment_line (shipments_of_lot first acts lot.now)
-        ++ notice_end (text.in_bins + total (λ u. u.qty) (bins_of_lot first acts lot.now)) (text.shipped + total (λ s. s.qty) (shipments_of_lot first acts lot.now))) books.old books.new
-        (W.contents out) (W.contents result.0) result.1 }
-{
-    let mut lines = NoticeLines { text, out };
-    let handed = put_notice_lines(books, lot, &mut lines);
-    let NoticeLines { text, mut out } = lines;
-    match handed {
-        Ok(()) => {
-            let end = text_end(text.end(&mut out));
+    match books.notice(lot) {
+        Ok(view) => {
+            let end = text_end(recall_notice(&view, &mut out));
             (out, end)
         }
-        Err(fault) => (out, Err(fault)),
+        Err(fault) => (out, Err(EachFault::Fault(fault))),
     }
-}
-
-// The bins and the shipments.
-fn put_notice_lines<S: Alter, W: Write>(
-    books: &mut Books<S>,
-    lot: &LotId,
-    lines: &mut NoticeLines<W>,
-) -> Result<(), EachFault>
-    ensures clean { IsClean S.Store books.new → IsClean S.Store books.old }
-    ensures as_before { IsClean S.Store books.new → AreAsBefore S.Store books.old books.new }
-    ensures put { IsClean S.Store books.new → (first : ℤ) (acts : List Act) → IsHistory first acts → HoldsBooks S.Store first acts books.old
-        → Puts S.Store first acts (flat_map bin_line (bins_of_lot first acts lot.now) ++ flat_map shipment_line (shipments_of_lot first acts lot.now)) books.old books.new
-        (W.contents lines.old.out) (W.contents lines.new.out) result }
-    ensures counted { IsClean S.Store books.new → (first : ℤ) (acts : List Act) → IsHistory first acts → HoldsBooks S.Store first acts books.old
-        → OnOk result (lines.new.text ≡ record {
-          in_bins = lines.old.text.in_bins + total (λ u. u.qty) (bins_of_lot first acts lot.now);
-          shipped = lines.old.text.shipped + total (λ s. s.qty) (shipments_of_lot first acts lot.now);
-        }) }
-{
-    books.each_bin(lot, lines)?;
-    books.each_shipment(lot, lines)
 }
 
 /// A writer that failed takes no more.

@@ -1,5 +1,5 @@
--- What is read of the tables of a history are the bins and the shipments of a lot.
-use Rattle.queries.proofs.Words.{◌≡◌, ◌≤◌, ◌<◌, true, List, [], ◌∷◌, map, filter, reverse, Global, inl, inr, refl, ap, sym, ◌∙◌, subst, arith, ◌==◌, ℤ, nat_eq, Option, Some, None, IsSomeAnd, Vec, AllByRecursion, cases_Bool, LotId, Tables, ACTS_MAX, CardRow, ShiplineRow, ShipmentRow, StockRow, BinUnits, ShippedUnits, Act, IsHistory, is_lot, shipments, tables_of, bins_of_lot, card_of_lot, shipments_of_lot, shipped_units, has_shipped_units, is_lot_refl, StockKey, same_stock, stock_key, same_number, itself_number, one_order, AreStockOfLot, same_cell_is, same_cell_refl, rows_read, rows_as, bins_seen, all_bins_shown, is_of_shipment, units_told, AllTell, AreShipped, shipment_cards}
+-- What is read of the tables of a history are the rows by which the recall notice of a lot is shown.
+use Rattle.queries.proofs.Words.{◌≡◌, ◌≤◌, ◌<◌, true, List, [], ◌∷◌, map, filter, reverse, Global, inl, inr, refl, ap, sym, ◌∙◌, subst, arith, ◌==◌, ℤ, nat_eq, Option, Some, None, IsSomeAnd, Ok, Vec, AllByRecursion, cases_Bool, LotId, Tables, ACTS_MAX, CardRow, ShiplineRow, ShipmentRow, StockRow, BinUnits, NoticeView, ShippedUnits, Act, IsHistory, is_lot, shipments, tables_of, bins_of_lot, card_of_lot, shipments_of_lot, shipped_units, has_shipped_units, is_lot_refl, StockKey, same_stock, stock_key, same_number, itself_number, one_order, AreStockOfLot, same_cell_is, same_cell_refl, rows_read, rows_as, bins_seen, all_bins_shown, notice_with_head, is_of_shipment, units_told, AllTell, AreShipped, shipment_cards, IsNoticeIn, whole, whole_notice_shown, NoticeRows}
 use Rattle.queries.proofs.CardOrder.{card_lines_of}
 use Rattle.queries.proofs.ShipmentCards.{AreLines, cards_told, lines, units_of}
 use Rattle.queries.proofs.ShipmentOrder.{line_of, numbers_small, units_all_told}
@@ -32,7 +32,7 @@ module _ (first : ℤ) (acts : List Act) (l : LotId) (history : IsHistory first 
       each_tells (shipment_cards first acts l) (shipments_of_lot first acts l) (subst (AreLines (shipment_cards first acts l)) (sym (mapped (reverse (shipments first acts)))) (cards_told first l acts history))
       (units_all_told first acts l history) (numbers_small first acts l history)
 
-  pub shipped : (told : Option (Vec ShippedUnits Global)) → AreShipped l t told → IsSomeAnd told (λ v. v.items ≡ shipments_of_lot first acts l)
+  shipped : (told : Option (Vec ShippedUnits Global)) → AreShipped l t told → IsSomeAnd told (λ v. v.items ≡ shipments_of_lot first acts l)
   shipped told are =
       let same : are.0 ≡ card_of_lot first acts l =
       one_order nat_eq same_number itself_number (λ n m. n < m) (λ k low. omega arith) (λ i j k p q. omega arith) (λ (c : CardRow). c.act) (t.card l) are.0 (card_of_lot first acts l) are.1 (card_lines_of first acts l) in
@@ -47,3 +47,15 @@ module _ (first : ℤ) (acts : List Act) (l : LotId) (history : IsHistory first 
       (rows_as {K = StockKey} same_stock stock_key same_cell_is same_cell_refl (λ k. is_lot l k.0) (λ k. is_lot l k.0) (λ k. is_lot l k.0) (λ k. true) (λ k. t.stock k.0 k.1) stock (λ k e. e) (λ k e. refl)
       (rows_read {K = StockKey} same_stock stock_key same_cell_is same_cell_refl (λ k. is_lot l k.0) (λ k. t.stock k.0 k.1) stock are))
       (λ b. is_lot_refl l)
+
+  -- The notice
+
+  pub told_by : (rows : NoticeRows) → IsNoticeIn l t (Ok rows) → (v : Vec ShippedUnits Global) → rows.shipments ≡ Some v → (in_bins : List BinUnits) (out : List ShippedUnits) → in_bins ≡ bins_seen rows.stock.items l → out ≡ v.items
+      → whole_notice_shown first acts l ≡ Ok (Some (record { item = rows.item; lot = l.lot; expiry = rows.expiry; bins = in_bins; shipments = out }))
+  told_by rows are v some in_bins out are_bins are_out =
+      let as_shipped : v.items ≡ shipments_of_lot first acts l = subst (λ told. IsSomeAnd told (λ v. v.items ≡ shipments_of_lot first acts l)) some (shipped rows.shipments are.2) in
+      ap (whole {V = NoticeView}) (notice_with_head first acts l rows.item rows.expiry are.0)
+      ∙ (λ i. Ok (Some (record { item = rows.item; lot = l.lot; expiry = rows.expiry; bins = (bins rows.stock.items are.1 ∙ sym are_bins) i; shipments = (sym as_shipped ∙ sym are_out) i })))
+
+  pub none_missing : (rows : NoticeRows) → IsNoticeIn l t (Ok rows) → rows.shipments ≡ None → ⊥
+  none_missing rows are none = subst (λ told. IsSomeAnd told (λ v. v.items ≡ shipments_of_lot first acts l)) none (shipped rows.shipments are.2)

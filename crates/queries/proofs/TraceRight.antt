@@ -18,7 +18,8 @@ use Rattle.overviews.specs.declared.trace.TraceView.{TraceView}
 use Rattle.overviews.proofs.TraceBounds.{units_bounded}
 use Rattle.overviews.proofs.DeliveryCards.{AreReceipts, deliveries_told}
 use Rattle.queries.specs.Telling.{EachTells, AreToldOf}
-use Rattle.queries.specs.Traced.{IsDelivery, IsStaged, is_receipt, order_before, trace_head_of, trace_head_in, AreStages, AreStanding, AreOfTrace, whole_trace_shown, whole}
+use Rattle.queries.specs.ShownNotice.{whole}
+use Rattle.queries.specs.Traced.{IsDelivery, IsStaged, is_receipt, order_before, trace_head_of, trace_head_in, AreStages, AreStanding, AreOfTrace, whole_trace_shown}
 use Rattle.queries.specs.declared.shown_trace.TraceRows.{TraceRows}
 use Rattle.queries.proofs.CardOrder.{card_lines_of}
 use Rattle.queries.proofs.NoticeRight.{bins, all_tell}

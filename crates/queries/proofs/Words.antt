@@ -56,6 +56,7 @@ pub use Rattle.commands.specs.declared.rows.StagedRow.{StagedRow}
 pub use Rattle.commands.specs.declared.rows.StockRow.{StockRow}
 pub use Rattle.commands.specs.declared.rows.UrgentRow.{UrgentRow}
 pub use Rattle.commands.specs.declared.views.BinUnits.{BinUnits}
+pub use Rattle.commands.specs.declared.views.NoticeView.{NoticeView}
 pub use Rattle.commands.specs.declared.views.ShippedUnits.{ShippedUnits}
 pub use Rattle.machine.specs.Acts.{Act, next_number}
 pub use Rattle.machine.specs.Cards.{cards, card_line, card_lines, delivery_note, lot_units_in_house}
@@ -145,16 +146,17 @@ pub use Rattle.slices.proofs.UrgentOrders.{urgents_of_each, urgents_told}
 pub use Rattle.queries.specs.Asked.{IsKnownOf, Asking}
 pub use Rattle.queries.specs.ByOrder.{AreStagedOf, AreReservedOf}
 pub use Rattle.queries.specs.Heads.{card_head_of}
-pub use Rattle.queries.specs.Refused.{notice_head_right, card_head_right}
+pub use Rattle.queries.specs.Refused.{notice_with_head, card_head_right}
 pub use Rattle.queries.specs.Shipped.{is_of_shipment, units_told, AllTell, AreShipped, shipment_cards, IsLineOf, with_order, with_shipment, TellsOf, AreTold}
 pub use Rattle.queries.specs.ShownBin.{lots_of_stock, AreStockAndLots, AreOfGoods, AreInBinRead, AreInBinBehind, AreBehind, IsBinIn}
 pub use Rattle.queries.specs.ShownExpiring.{IsLotSeen, lots_in_house, AreHouse, AreOfItems, AreExpiring, AreExpiringBehind, AreExpiringIn}
 pub use Rattle.queries.specs.ShownNames.{gtins_of, AreNamed, IsItemSeen, AreNamesBehind, AreNamesIn}
-pub use Rattle.queries.specs.ShownNotice.{head_of}
+pub use Rattle.queries.specs.ShownNotice.{IsNoticeIn, whole, whole_notice_shown, head_of}
 pub use Rattle.queries.specs.ShownOpen.{AreAllOpen, order_of, order_in, names_served, AreOfOrders, AreListed, IsSeen, IsOpenIn}
 pub use Rattle.queries.specs.ShownOrders.{booked_lots, reserved_lots, AreOfOrder, IsOrderIn, AreOrderLines}
 pub use Rattle.queries.specs.ShownShort.{AreOrdered, AreOrderedFor, AreUrgentFor, AreOfDemands, IsShortIn}
 pub use Rattle.queries.specs.ShownStock.{AreOfItem, IsStockIn}
+pub use Rattle.queries.specs.declared.shown_notice.NoticeRows.{NoticeRows}
 pub use Rattle.overviews.specs.Picks.{picks_view}
 pub use Rattle.views.specs.ShownPicks.{AreLineItems}
 pub use Rattle.queries.specs.ShownPicks.{AreItemRows, AreOfPicks, ArePicksIn}

@@ -1,5 +1,7 @@
--- The rows by which the head and the bins of a recall notice are shown.
-use Rattle.queries.specs.Words.{ℤ, List, Vec, Global, Option, Some, None, option_map, Result, Ok, Err, LotId, Tables, Refusal, UnknownItem, NoNotice, ItemRow, LotRow, RecallRow, StockRow, BinUnits, NoticeView, Act, notice_shown, bins_of_lot, AreStockOfLot}
+-- The rows by which the recall notice of a lot is shown.
+use Rattle.std.specs.Prelude.{◌≡◌}
+use Rattle.queries.specs.Words.{ℤ, List, Option, Some, None, option_map, Result, Ok, Err, LotId, Tables, Refusal, UnknownItem, NoNotice, ItemRow, LotRow, RecallRow, NoticeView, Act, notice_shown, AreStockOfLot, NoticeRows}
+use Rattle.queries.specs.Shipped.{AreShipped}
 
 -- the item and the day of expiry, which is none where the lot never came, or the refusal
 abbrev pub head_of : Option ItemRow → Option RecallRow → Option LotRow → Result (ItemRow × Option ℤ) Refusal
@@ -10,19 +12,15 @@ head_of (Some item) (Some recall) lot = Ok (item, option_map (λ (row : LotRow).
 abbrev pub head_in : Tables → LotId → Result (ItemRow × Option ℤ) Refusal
 head_in t l = head_of (t.item l.gtin) (t.recall l) (t.lot l)
 
--- the head of the notice, as the machine has it
-abbrev pub head_of_notice : Result NoticeView Refusal → Result (ItemRow × Option ℤ) Refusal
-head_of_notice (Ok view) = Ok (view.item, view.expiry)
-head_of_notice (Err why) = Err why
+-- these with the stock of the lot and its shipments, or the refusal
+abbrev pub IsNoticeIn : LotId → Tables → Result NoticeRows Refusal → Type 0
+IsNoticeIn l t (Err why) = Err why ≡ head_in t l
+IsNoticeIn l t (Ok found) = (Ok (found.item, found.expiry) ≡ head_in t l) × AreStockOfLot l t found.stock.items × AreShipped l t found.shipments
 
-abbrev pub notice_head_shown : ℤ → List Act → LotId → Result (ItemRow × Option ℤ) Refusal
-notice_head_shown first acts l = head_of_notice (notice_shown first acts l)
+-- a notice is shown whole
+abbrev pub whole : {V : Type 0} → Result V Refusal → Result (Option V) Refusal
+whole (Ok view) = Ok (Some view)
+whole (Err why) = Err why
 
--- the stock of the lot
-abbrev pub IsStockIn : LotId → Tables → Result (Vec StockRow Global) Refusal → Type 0
-IsStockIn l t (Ok found) = AreStockOfLot l t found.items
-IsStockIn l t (Err why) = ⊥
-
--- the bins with units of it
-abbrev pub lot_bins_shown : ℤ → List Act → LotId → Result (List BinUnits) Refusal
-lot_bins_shown first acts l = Ok (bins_of_lot first acts l)
+abbrev pub whole_notice_shown : ℤ → List Act → LotId → Result (Option NoticeView) Refusal
+whole_notice_shown first acts l = whole (notice_shown first acts l)

@@ -3,7 +3,8 @@ use Rattle.std.specs.Prelude.{◌≡◌}
 use Rattle.queries.specs.Words.{ℤ, List, Option, Some, None, Result, Ok, Err, option_map, ap, LotId, Refusal, UnknownItem, UnknownLot, ItemRow, LotRow, Act, KnownLot, lot_known, is_held, tables_of, item_row, if_known}
 use Rattle.overviews.specs.Traces.{trace_view}
 use Rattle.overviews.specs.declared.trace.TraceView.{TraceView}
-use Rattle.queries.specs.Traced.{trace_head_of, trace_head_in, whole_trace_shown, whole}
+use Rattle.queries.specs.ShownNotice.{whole}
+use Rattle.queries.specs.Traced.{trace_head_of, trace_head_in, whole_trace_shown}
 
 module _ (first : ℤ) (acts : List Act) (l : LotId) where
   abbrev pub lot_of : KnownLot → LotRow

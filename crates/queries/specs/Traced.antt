@@ -12,6 +12,7 @@ use Rattle.overviews.specs.declared.trace.Delivery.{Delivery}
 use Rattle.overviews.specs.declared.trace.StagedUnits.{StagedUnits}
 use Rattle.overviews.specs.declared.trace.TraceView.{TraceView}
 use Rattle.queries.specs.Shipped.{is_of_shipment, AreTold}
+use Rattle.queries.specs.ShownNotice.{whole}
 
 -- The deliveries
 
@@ -90,11 +91,6 @@ pub record AreOfTrace (l : LotId) (t : Tables) (rows : TraceRows) : Type 0 where
 abbrev pub IsTraceIn : LotId → Tables → Result TraceRows Refusal → Type 0
 IsTraceIn l t (Err why) = Err why ≡ trace_head_in t l
 IsTraceIn l t (Ok found) = AreOfTrace l t found
-
--- a view that is shown whole
-abbrev pub whole : {V : Type 0} → Result V Refusal → Result (Option V) Refusal
-whole (Ok view) = Ok (Some view)
-whole (Err why) = Err why
 
 abbrev pub whole_trace_shown : ℤ → List Act → LotId → Result (Option TraceView) Refusal
 whole_trace_shown first acts l = whole (trace_shown first acts l)

@@ -27,7 +27,6 @@ pub use Rattle.commands.specs.declared.rows.ShipmentRow.{ShipmentRow}
 pub use Rattle.commands.specs.declared.rows.StagedRow.{StagedRow}
 pub use Rattle.commands.specs.declared.rows.StockRow.{StockRow}
 pub use Rattle.commands.specs.declared.rows.UrgentRow.{UrgentRow}
-pub use Rattle.commands.specs.declared.views.BinUnits.{BinUnits}
 pub use Rattle.commands.specs.declared.views.CardView.{CardView}
 pub use Rattle.commands.specs.declared.views.NoticeView.{NoticeView}
 pub use Rattle.commands.specs.declared.views.OrderView.{OrderView}
@@ -70,6 +69,7 @@ pub use Rattle.slices.specs.Remembering.{KnowsRows}
 pub use Rattle.slices.specs.Slicing.{HoldsOf, Each, AreLeast, items_of_lots, AreAllLines, AreUrgents, AreOrders, with_names, AreBins, AreOpen, AreKnownOrders, AreUrgentsFor, AreBooked}
 pub use Rattle.slices.specs.declared.knowing.Known.{Known}
 pub use Rattle.slices.specs.declared.rows_known.RowsKnown.{RowsKnown}
+pub use Rattle.queries.specs.declared.shown_notice.NoticeRows.{NoticeRows}
 pub use Rattle.queries.specs.declared.shown_trace.TraceRows.{TraceRows}
 pub use Rattle.overviews.specs.Picks.{picks_shown, picks_view}
 pub use Rattle.overviews.specs.declared.picks.PicksView.{PicksView}

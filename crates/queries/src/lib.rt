@@ -25,8 +25,6 @@ mod shown_trace;
 mod traced;
 
 pub use query::Query;
-pub use shipline::shipline_of;
-pub use shipped::{ShippedQuery, read_shipments};
 pub use shown_acts::ActsQuery;
 pub use shown_bin::BinQuery;
 pub use shown_books::BooksQuery;
@@ -34,7 +32,7 @@ pub use shown_expiring::ExpiringQuery;
 pub use shown_figures::FiguresQuery;
 pub use shown_heads::CardHeadQuery;
 pub use shown_names::ItemNamesQuery;
-pub use shown_notice::{LotBinsQuery, NoticeHeadQuery};
+pub use shown_notice::{NoticeQuery, NoticeRows};
 pub use shown_open::OpenQuery;
 pub use shown_orders::OrderQuery;
 pub use shown_picks::PicksQuery;

@@ -10,7 +10,7 @@ use commands::{CardRow, ShiplineRow};
 
 /// The line of the shipment that this line of a card is of: the card refers to the shipment by its number, and the units
 /// went. `None` where the reference is no number of a shipment or units came, as in no books.
-pub fn shipline_of(card: &CardRow) -> Option<ShiplineRow>
+pub(crate) fn shipline_of(card: &CardRow) -> Option<ShiplineRow>
     ensures { (s : Line) → s.number ≤ ACTS_MAX → IsLineOf card.now s → result ≡ Some s }
 {
     let number = number_of(card.note.as_bytes())?;

@@ -1,4 +1,4 @@
-//! What the recall notice of a lot begins with, and the bins that it names.
+//! The rows by which the recall notice of a lot is shown.
 
 ghost use Rattle.std.specs.Prelude.{◌≡◌, option_map};
 ghost use Rattle.sqlite.specs.Held.{state};
@@ -9,7 +9,8 @@ ghost use Rattle.queries.specs.ShownNotice.{head_of as head_of_lem, head_in};
 
 use crate::query::Query;
 use crate::reading::{item_row, lot_row};
-use commands::{BinUnits, ItemRow, Listed, LotRow, RecallRow, Refusal, StockRow};
+use crate::shipped::read_shipments;
+use commands::{ItemRow, Listed, LotRow, NoticeView, RecallRow, Refusal, ShippedUnits, StockRow};
 use label::{BusinessDay, Day};
 use row_rules::row_search::find_row;
 use slices::{Known, RowsKnown, seek_recalls_of, seek_stock_of};
@@ -75,26 +76,37 @@ fn read_head<S: Alter>(
     Ok(head_of(item, recall, lot))
 }
 
-/// What a recall notice begins with: its item, and the day on which the lot expires, `None` for a lot that never came.
+// The notice
+
+/// What the recall notice of a lot is shown by.
+#[derive(Drop)]
+pub struct NoticeRows {
+    item: ItemRow,
+    expiry: Option<Day>,
+    stock: Vec<StockRow>,
+    // `None` where a line of the lot's card tells of no shipment, as in no books.
+    shipments: Option<Vec<ShippedUnits>>,
+}
+
+/// The recall notice of a lot. `None` where rows that a line of the lot's card refers to are gone, as in no books.
 #[derive(Clone, Copy)]
-pub struct NoticeHeadQuery {
+pub struct NoticeQuery {
     pub lot: LotId,
 }
 
-impl Query for NoticeHeadQuery {
-    ghost use Rattle.std.specs.Prelude.{◌≡◌};
-    ghost use Rattle.queries.specs.ShownNotice.{notice_head_shown, head_in};
-    ghost use Rattle.queries.specs.Refused.{notice_head_refused};
+impl Query for NoticeQuery {
+    ghost use Rattle.queries.specs.ShownNotice.{IsNoticeIn, whole_notice_shown};
+    ghost use Rattle.queries.specs.Refused.{notice_refused};
 
-    type Found = (ItemRow, Option<Day>);
+    type Found = NoticeRows;
 
-    type View = (ItemRow, Option<Day>);
+    type View = Option<NoticeView>;
 
-    ghost is_in = { λ q t found. found ≡ head_in t q.lot };
+    ghost is_in = { λ q t found. IsNoticeIn q.lot t found };
 
-    ghost shown = { λ first acts q. notice_head_shown first acts q.lot };
+    ghost shown = { λ first acts q. whole_notice_shown first acts q.lot };
 
-    ghost refused = { λ first acts q why found. notice_head_refused first acts q.lot why found };
+    ghost refused = { λ first acts q why found. notice_refused first acts q.lot why found };
 
     fn read<S: Alter>(
         &self,
@@ -102,57 +114,45 @@ impl Query for NoticeHeadQuery {
         tx: &mut Transaction<'_, S>,
         _known: Option<&Known>,
         rows: &mut RowsKnown,
-    ) -> Result<Result<(ItemRow, Option<Day>), Refusal>, TableFault> {
-        read_head(alloc, tx, rows, &self.lot)
-    }
-
-    fn view(
-        &self,
-        _alloc: Global,
-        _day: BusinessDay,
-        found: (ItemRow, Option<Day>),
-    ) -> Result<(ItemRow, Option<Day>), AllocError> {
-        Ok(found)
-    }
-}
-
-/// The bins with units of a lot, by name. It is never refused.
-#[derive(Clone, Copy)]
-pub struct LotBinsQuery {
-    pub lot: LotId,
-}
-
-impl Query for LotBinsQuery {
-    ghost use Rattle.queries.specs.ShownNotice.{lot_bins_shown, IsStockIn};
-
-    type Found = Vec<StockRow>;
-
-    type View = Listed<BinUnits>;
-
-    ghost is_in = { λ q t found. IsStockIn q.lot t found };
-
-    ghost shown = { λ first acts q. lot_bins_shown first acts q.lot };
-
-    ghost refused = { λ first acts q why found. absurd found };
-
-    fn read<S: Alter>(
-        &self,
-        alloc: Global,
-        tx: &mut Transaction<'_, S>,
-        _known: Option<&Known>,
-        rows: &mut RowsKnown,
-    ) -> Result<Result<Vec<StockRow>, Refusal>, TableFault> {
-        let stock = seek_stock_of(alloc, tx, rows, &self.lot)?;
-        Ok(Ok(stock))
+    ) -> Result<Result<NoticeRows, Refusal>, TableFault> {
+        let head = read_head(alloc, tx, rows, &self.lot)?;
+        match head {
+            Ok((item, expiry)) => {
+                let stock = seek_stock_of(alloc, tx, rows, &self.lot)?;
+                let shipments = read_shipments(alloc, tx, &self.lot)?;
+                Ok(Ok(NoticeRows {
+                    item,
+                    expiry,
+                    stock,
+                    shipments,
+                }))
+            }
+            Err(why) => Ok(Err(why)),
+        }
     }
 
     fn view(
         &self,
         alloc: Global,
         _day: BusinessDay,
-        found: Vec<StockRow>,
-    ) -> Result<Listed<BinUnits>, AllocError> {
-        let bins = bins_of_lot(alloc, found.as_slice(), &self.lot)?;
-        Ok(Listed::from_vec(bins))
+        found: NoticeRows,
+    ) -> Result<Option<NoticeView>, AllocError> {
+        let NoticeRows {
+            item,
+            expiry,
+            stock,
+            shipments,
+        } = found;
+        let bins = bins_of_lot(alloc, stock.as_slice(), &self.lot)?;
+        match shipments {
+            Some(shipments) => Ok(Some(NoticeView {
+                item,
+                lot: self.lot.lot,
+                expiry,
+                bins: Listed::from_vec(bins),
+                shipments: Listed::from_vec(shipments),
+            })),
+            None => Ok(None),
+        }
     }
 }

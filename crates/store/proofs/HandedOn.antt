@@ -1,5 +1,5 @@
 -- Records of the books handed to a sink, outside every transaction.
-use Rattle.store.proofs.Words.{◌≡◌, ℕ, Trees, List, [], inl, inr, refl, sym, subst, ◌∙◌, arith, ◌≢◌, ◌⊎◌, ℤ, Result, Ok, Err, IsTrue, State, HasCleanDisk, KeepsCommit, Survives, IsUnchanged, IsRolledBack, Error, survives_then, survives_weaker, Act, IsReady, kept_itself, kept_unchanged, kept_undone, kept_then, IsBooksOf, RowsFault, HandsOver, IsLeft, KeepsBooks, IsSettled, each_fault_of, IsHandedOn, NoBooks, Store, EachFault}
+use Rattle.store.proofs.Words.{◌≡◌, ℕ, List, [], inl, inr, refl, sym, subst, ◌∙◌, arith, ◌≢◌, ◌⊎◌, ℤ, Result, Ok, Err, IsTrue, State, HasCleanDisk, KeepsCommit, Survives, IsUnchanged, IsRolledBack, Error, survives_then, survives_weaker, Act, IsReady, kept_itself, kept_unchanged, kept_undone, kept_then, IsBooksOf, RowsFault, HandsOver, IsLeft, KeepsBooks, IsSettled, each_fault_of, IsHandedOn, NoBooks, Store, EachFault}
 use Rattle.sqlite.specs.State.{IsNotRun}
 use Rattle.sqlite_value.specs.Order.{Row}
 use Rattle.table_words.specs.declared.error.TableFault.TheVariants as table
@@ -51,9 +51,6 @@ handed_none first acts takes stops records sink old new held left = (record { ta
 
 -- ---- nothing is committed
 
-pub never_commits_itself : (s : State) → Survives s s (NoBooks s)
-never_commits_itself s = record { clean = omega arith; shield = λ h. h; counts = omega arith; limit = refl; closes = λ _ h. inl h; crash = λ _ db h. inl h }
-
 pub never_commits_none : (old new : State) → Survives old new (λ _. ⊥) → Survives old new (NoBooks old)
 never_commits_none old new one = survives_weaker old new _ (NoBooks old) (λ clean db none. absurd none) one
 
@@ -92,29 +89,8 @@ pub left_stays : (old new : State) → IsUnchanged old new ⊎ IsRolledBack old 
 left_stays old new (inl same) at = (kept_unchanged old new same, settled_same old new at same)
 left_stays old new (inr back) at = (kept_undone old new back, settled_back old old new at (kept_itself old) back)
 
-pub stays_itself : (s : State) → Stays s s
-stays_itself s clean settled = (kept_itself s, settled)
-
--- so the books of a history stay
-pub stays_keeps : (first : ℤ) (acts : List Act) (old new : State) → HasCleanDisk new → Stays old new → KeepsBooks first acts old → KeepsBooks first acts new
-stays_keeps first acts old new clean stays held =
-    let left = stays clean (record { ready = λ up. (held.books up).ready; settled = held.settled }) in
-    record {
-      books = λ up. subst (IsBooksOf first acts) (sym (sym (left.1.settled up) ∙ left.0.committed up ∙ held.settled (left.0.was_open up))) (held.books (left.0.was_open up));
-      settled = left.1.settled;
-    }
-
--- nothing is committed after what stays
-pub never_commits_later : (old mid new : State) → Survives old mid (NoBooks old) → Survives mid new (NoBooks mid) → Stays old mid → Survives old new (NoBooks old)
-never_commits_later old mid new one two stays =
-    survives_then old mid new _ _ (NoBooks old) (λ clean db none. none)
-    (λ clean db none first acts history held. none first acts history (stays_keeps first acts old mid (omega (arith, clean, two.clean)) stays held)) one two
-
 stays_then : (a b c : State) → KeepsCommit a b × IsSettled b → (IsSettled b → KeepsCommit b c × IsSettled c) → KeepsCommit a c × IsSettled c
 stays_then a b c one two = let next = two one.1 in (kept_then a b c one.0 next.0, next.1)
-
-pub stays_later : (old mid new : State) {Q : Trees → Type 0} → Survives mid new Q → Stays old mid → Stays mid new → Stays old new
-stays_later old mid new survives one two clean at = stays_then old mid new (one (omega (arith, clean, survives.clean)) at) (two clean)
 
 -- what hands rows over leaves the connection settled
 pub handed_stays : (old mid new : State) (r : Result (Unit {0}) RowsFault) → IsSettled old → IsUnchanged old mid → (IsReady mid.now → IsLeft mid new r) → KeepsCommit old new × IsSettled new

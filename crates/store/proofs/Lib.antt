@@ -14,9 +14,6 @@ pub mod DayTold
 pub mod FilesInside
 pub mod FilesWhole
 pub mod HandedOn
-pub mod FirstShipped
-pub mod LaterShipments
-pub mod PagesHanded
 pub mod ActsHanded
 pub mod AsBefore
 pub mod LinesWritten

@@ -1,5 +1,5 @@
 -- A look at the books within a transaction, which is then rolled back.
-use Rattle.store.proofs.Words.{◌≡◌, refl, true, List, Ok, Err, Result, IsTrue, sym, ap, subst, arith, ℤ, Option, Some, None, Refusal, State, HasCleanDisk, KeepsCommit, IsRolledBack, Survives, IsReady, kept_undone, kept_then, inside_then, Act, IsHistory, IsBooksOf, KeepsBooks, IsFoundAs, IsShownAs, IsShownOn, told_whole, Fault, Refused, Store, Foreign}
+use Rattle.store.proofs.Words.{◌≡◌, true, List, Ok, Err, Result, IsTrue, sym, ap, subst, arith, ℤ, Option, Some, None, Refusal, State, HasCleanDisk, KeepsCommit, IsRolledBack, Survives, IsReady, kept_undone, kept_then, inside_then, Act, IsHistory, IsBooksOf, KeepsBooks, whole, IsShownAs, IsShownOn, told_whole, Fault, Refused, Store, Foreign}
 use Rattle.store.proofs.ActsWhole.{KeepsInside, books_begun, begun_commit, undone_whole}
 use Rattle.store.proofs.HandedOn.{Stays, settled_back}
 
@@ -39,14 +39,15 @@ module _ (old begun last new : State) (is : begun ≡ record old { in_transactio
         let was : HasCleanDisk last = omega (arith, clean, ends.clean) in
         (view first acts history p (read was first acts history (books_begun first acts old begun is held)), left clean first acts held)
 
--- What is never refused fails for want of memory or of the disk
-
-pub fails_by_store : {V : Type 0} (view : V) (fault : Fault) → IsShownAs (Ok view) (Err fault) → fault ≡ Store
-fails_by_store view (Refused why) is = absurd (let it = is in cc)
-fails_by_store view Store is = refl
-fails_by_store view Foreign is = absurd is
-
-pub found_whole : {V : Type 0} (told : Option V) (view : V) (r : Result (Option V) Fault) → told ≡ Some view → IsShownAs (Ok told) r → IsFoundAs (λ v. v ≡ view) (told_whole r)
-found_whole told view (Ok (Some v)) some is = cc
-found_whole told view (Ok None) some is = absurd (let it = is in cc)
-found_whole told view (Err fault) some is = fails_by_store told fault is
+-- a view that is shown whole
+pub whole_shown : {V : Type 0} (shown : Result V Refusal) (r : Result (Option V) Fault) → IsShownAs (whole shown) r → IsShownAs shown (told_whole r)
+whole_shown {V} (Ok v) (Ok (Some view)) is = let same : v ≡ view = cc in ap (λ x. let r : Result V Refusal = Ok x in r) same
+whole_shown (Ok v) (Ok None) is = absurd (let it = is in cc)
+whole_shown (Ok v) (Err (Refused why)) is = absurd (let it = is in cc)
+whole_shown (Ok v) (Err Store) is = tt
+whole_shown (Ok v) (Err Foreign) is = is
+whole_shown (Err w) (Ok (Some view)) is = absurd (let it = is in cc)
+whole_shown (Err w) (Ok None) is = absurd (let it = is in cc)
+whole_shown {V} (Err w) (Err (Refused why)) is = let same : w ≡ why = cc in ap (λ x. let r : Result V Refusal = Err x in r) same
+whole_shown (Err w) (Err Store) is = tt
+whole_shown (Err w) (Err Foreign) is = is

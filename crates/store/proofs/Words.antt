@@ -3,10 +3,10 @@ pub use Rattle.std.specs.Cmp.Lexicographic.{slice_cmp}
 pub use Rattle.std.specs.List.{AllByRecursion, list_all, cons_option, list_any}
 pub use Rattle.std.specs.Option.{unwrap_or, option_copied}
 pub use Rattle.std.specs.Ordering.{nat_cmp, is_eq}
-pub use Rattle.std.specs.Prelude.{nat_lt, IsSome, pos, int_le, int_lt, nat_le, is_some, if◌then◌else◌, option_map, min, ◌||◌, All, bytes_eq, reverse, IfSome, ◌≢◌, is_ok, codes, nat_eq, negsuc, neg_ℤ, decimal, ⊤, ◌==◌, flat_map, FitsSigned}
+pub use Rattle.std.specs.Prelude.{pos, int_le, int_lt, nat_le, is_some, if◌then◌else◌, option_map, min, ◌||◌, All, bytes_eq, reverse, IfSome, ◌≢◌, is_ok, codes, nat_eq, negsuc, neg_ℤ, decimal, ⊤, ◌==◌, flat_map, FitsSigned}
 pub use Rattle.std.specs.Result.{IsErr, IsErrAnd, IsOk, MatchResult}
 pub use Rattle.std.specs.declared.cmp.Ordering.{Ordering}
-pub use Rattle.std.proofs.Common.{◌<◌, append_assoc, append-nil, ◌≡◌, ℕ, ◌+◌, ◌≤◌, Bool, true, false, ◌&&◌, List, [], ◌∷◌, find, length, Option, Some, None, refl, subst, arith, ℤ, Result, Ok, Err, sym, IsTrue, ap, ◌∙◌, inl, inr, OnOk, ◌⊎◌, take, drop, IfOk, OnErr, IfErr, map, filter, ◌++◌, slice_get, zero, suc, ◌-◌, rules, w64}
+pub use Rattle.std.proofs.Common.{◌≡◌, ℕ, ◌+◌, ◌≤◌, Bool, true, false, ◌&&◌, List, [], ◌∷◌, find, length, Option, Some, None, refl, subst, arith, ℤ, Result, Ok, Err, sym, IsTrue, ap, ◌∙◌, inl, inr, OnOk, ◌⊎◌, take, drop, IfOk, OnErr, IfErr, map, filter, ◌++◌, slice_get, zero, suc, ◌-◌, rules, w64}
 pub use Rattle.std.proofs.lemmas.Bool.{cases_Bool, eqb-true}
 pub use Rattle.std.proofs.lemmas.Bool.Decides.{nat_tests}
 pub use Rattle.std.proofs.lemmas.Grind.{common_steps}
@@ -29,15 +29,13 @@ pub use Rattle.sqlite_value.specs.Order.{column}
 pub use Rattle.sqlite_value.specs.declared.value.Value.{Value}
 pub use Rattle.sqlite_value.specs.declared.value.Value.TheVariants.{Int}
 pub use Rattle.sqlite.proofs.StateLemmas.{survives_then, survives_weaker}
-pub use Rattle.sqlite_keyed.proofs.ListLemmas.{all_weaker, all-append, all-filter, filter_all, ascending-filter}
-pub use Rattle.sqlite_trees.specs.Tree.{IsAscending}
+pub use Rattle.sqlite_keyed.proofs.ListLemmas.{all_weaker, all-append}
 pub use Rattle.values.specs.Values.{is_between, is_name, is_title, is_qty, same_text, QTY_MAX, is_gtin, is_least_days, LEAST_DAYS_MAX, is_counted, is_delta}
 pub use Rattle.values.specs.declared.lot.LotId.{LotId}
 pub use Rattle.label.specs.Days.{is_day, is_business_day}
 pub use Rattle.commands.specs.Limits.{has_order_lines}
 pub use Rattle.commands.specs.Names.{names_of}
 pub use Rattle.commands.specs.Sound.{is_sound, is_new_order, is_order_line, are_lines, is_lot_id, is_sound_key}
-pub use Rattle.commands.specs.Sinks.{Reaches, ReachesWithin, StopsWithin}
 pub use Rattle.commands.specs.Spelling.{key_text}
 unfoldable pub use Rattle.commands.specs.Spelling.{spelling}
 pub use Rattle.commands.specs.Tables.{Tables}
@@ -70,7 +68,6 @@ pub use Rattle.commands.specs.declared.rows.ShipmentRow.{ShipmentRow}
 pub use Rattle.commands.specs.declared.rows.StagedRow.{StagedRow}
 pub use Rattle.commands.specs.declared.rows.StockRow.{StockRow}
 pub use Rattle.commands.specs.declared.rows.UrgentRow.{UrgentRow}
-pub use Rattle.commands.specs.declared.views.ShippedUnits.{ShippedUnits}
 pub use Rattle.machine.specs.Acts.{Act, gathered, next_number}
 pub use Rattle.machine.specs.Cards.{cards, card_line, card_lines, delivery_note, lot_units_in_house}
 pub use Rattle.machine.specs.Ledger.{posting, correction, written, cleared, shipped_off, lot_returned, returned, posted, postings, postings_of, made_unshippable}
@@ -78,18 +75,18 @@ pub use Rattle.machine.specs.Machine.{AllSound}
 pub use Rattle.machine.specs.Once.{IsHistory, is_key_of, bearer, outcome, acts_after, appended, judged, Outcome, Accepted, Repeated, IsSoundRequest, tallied, unless_refused, all_tallied, file_outcome_of, acts_after_file, acts_if_taken, Earlier, told_again}
 pub use Rattle.machine.specs.Planning.{in_bin, staged_of_lot, item_postings, staged, shipped, shipped_of, reserved}
 pub use Rattle.machine.specs.Postings.{Place, Supplier, InBin, Stage, Shipped, WriteOff, Posting, balance, is_stage, is_shipment, is_lot}
-pub use Rattle.machine.specs.Queries.{order_shown, short_shown, stock_shown}
+pub use Rattle.machine.specs.Queries.{notice_shown, order_shown, short_shown, stock_shown}
 pub use Rattle.machine.specs.Replies.{reply}
 pub use Rattle.machine.specs.Schemas.{are_of_schema}
 pub use Rattle.machine.specs.Standing.{KnownLot, lot_among, lots, lots_after, lot_known, Recalling, recall_in, recalling, least_in, days_asked, item_named, Placed, order_in, orders, order_named, lines_placed, lines_of, shipments, shipments_after, day_after_command, today, RETURNS, returns_bin, is_cancelled, shipments_so_far}
 pub use Rattle.machine.specs.Tables.{lot_row, least_row, recall_row, order_row, if_urgent, urgent_row, shipment_row, repeat_row, meta_row, bin_row, if_any, stock_row, line_row, staged_row, reserved_row, shipline_row, card_row}
 unfoldable pub use Rattle.machine.specs.Tables.{tables_of}
 pub use Rattle.machine.specs.Verdict.{verdict, names_item_twice}
-pub use Rattle.machine.specs.Views.{card_of_lot, bins_of_lot, shipments_of_lot}
+pub use Rattle.machine.specs.Views.{card_of_lot}
 pub use Rattle.machine.proofs.Apart.{any_found}
 pub use Rattle.machine.proofs.Tests.{and_both, some_one, or_first, or_later, and_false, same_text_refl, or_none, is_lot_item}
 pub use Rattle.machine.proofs.histories.Accepted.{receive_accepted}
-pub use Rattle.machine.proofs.histories.AfterShipping.{shipment_after, filter_appended}
+pub use Rattle.machine.proofs.histories.AfterShipping.{shipment_after}
 pub use Rattle.machine.proofs.histories.Cells.{IsPart, holds_split}
 pub use Rattle.machine.proofs.histories.ClosedOrders.{served, served_is, served_within_ordered}
 pub use Rattle.machine.proofs.histories.KnownPlaces.{unknown_shipment_is_empty}
@@ -130,9 +127,8 @@ pub use Rattle.keyed_rows.specs.Described.{with_row, without_row}
 pub use Rattle.keyed_rows.specs.Handed.{HandsOver, IsLeft}
 pub use Rattle.keyed_rows.specs.Writes.{Writes, each_written}
 pub use Rattle.keyed_rows.specs.declared.each_fault.EachFault.{EachFault as RowsFault}
-pub use Rattle.keyed_rows.proofs.Rising.{found_wanted}
 pub use Rattle.keyed_rows.proofs.Writing.{same_error, writes_none, writes_then}
-pub use Rattle.tables.specs.ByKey.{AreCardLines, cards_above}
+pub use Rattle.tables.specs.ByKey.{AreCardLines}
 pub use Rattle.tables.specs.Meta.{fits_meta}
 pub use Rattle.tables.specs.Repeats.{fits_repeat, repeats, repeats_laws}
 pub use Rattle.tables.specs.Staged.{AreStagedOfItem, AreStagedOfOrder, staged_laws}
@@ -177,11 +173,10 @@ pub use Rattle.slices.proofs.RowsTold.{and_true}
 pub use Rattle.slices.proofs.StillKnown.{rows_stay_known, no_rows_known}
 pub use Rattle.queries.specs.Asked.{Asking, IsKnownOf}
 pub use Rattle.queries.specs.ShownActs.{acts_shown}
-pub use Rattle.queries.specs.Shipped.{is_of_shipment, shipment_cards, units_told, TellsOf, AllTell}
-pub use Rattle.queries.proofs.CardOrder.{card_lines_of, IsOne, one_line}
-pub use Rattle.queries.proofs.NoticeRight.{all_tell}
+pub use Rattle.queries.specs.ShownNotice.{whole}
+pub use Rattle.queries.proofs.CardOrder.{card_lines_of}
 pub use Rattle.queries.proofs.ShipmentCards.{Stays, stays_posted, units_stay}
-pub use Rattle.queries.proofs.ShipmentOrder.{acts_within, all_reversed}
+pub use Rattle.queries.proofs.ShipmentOrder.{acts_within}
 pub use Rattle.changes.specs.Written.{puts, drops, stage_emptied, emptied, table_written}
 unfoldable pub use Rattle.changes.specs.Written.{change_written, change_made}
 pub use Rattle.changes.proofs.ChangeWritten.{change_is_applied, table_left, made_is_written}
@@ -195,11 +190,10 @@ pub use Rattle.store.specs.EachFaults.{each_fault_of}
 pub use Rattle.store.specs.Faults.{fault_of, fault_of_rule}
 pub use Rattle.store.specs.Filing.{rows_of, AreKeysOf, taken, tally_of, one_more, DayGoes, ShowsBooks, IsRowTaken, IsFiledInside, IsFiledOn, IsFiled, TakesRow}
 pub use Rattle.store.specs.Fitting.{RowsOfActsFit}
-pub use Rattle.store.specs.Handing.{IsHandedOn, HandsRecords, NoBooks}
-pub use Rattle.store.specs.Heads.{card_head_shown, notice_head_shown}
+pub use Rattle.store.specs.Handing.{IsHandedOn, NoBooks}
+pub use Rattle.store.specs.Heads.{card_head_shown}
 pub use Rattle.store.specs.Inside.{IsInsideOpen, IsInside}
 pub use Rattle.store.specs.Knowing.{HasKnown, IsKnown, GoesOnKnown, HoldsLeft, HasLeft, LeavesKnown}
-pub use Rattle.store.specs.LotRows.{IsFoundOn, further, IsPageOf, beside_above, later_shipments, if_of_shipment, row_taken}
 pub use Rattle.store.specs.Opening.{IsOpenedFrom, third_number, AreThirdRowsOf, AreOlderRowsOf, OlderRowsGoOn, AreRowsAt, AreFoundRows, MayCome, IsOpenedAsFound, IsLeftOver, unlimited}
 pub use Rattle.store.specs.Queries.{IsShown}
 pub use Rattle.store.specs.Showing.{IsShownOn, Looks, IsShownAs, told_whole, IsFoundAs}
@@ -207,8 +201,6 @@ pub use Rattle.store.specs.declared.each_fault.EachFault.{EachFault}
 pub use Rattle.store.specs.declared.fault.Fault.{Fault}
 pub use Rattle.store.specs.declared.fault.Fault.TheVariants.{Refused, Store, Foreign}
 pub use Rattle.store.specs.declared.filing.Filed.{Filed}
-pub use Rattle.store.specs.declared.card_rows.FirstShipped.{FirstShipped}
-pub use Rattle.store.specs.declared.lot_rows.Page.{Page}
 pub use Rattle.store.specs.declared.reply.Reply.{Reply}
 pub use Rattle.store.specs.declared.tally.RowFault.{RowFault}
 pub use Rattle.store.specs.declared.tally.Tally.{Tally}

@@ -1,4 +1,2 @@
--- What a stock card and a recall notice begin with.
+-- What a stock card begins with.
 pub use Rattle.queries.specs.Heads.{head_of_card, card_head_shown}
-pub use Rattle.queries.specs.ShownNotice.{notice_head_shown}
-pub use Rattle.queries.specs.Refused.{notice_of, notice_headed}

@@ -12,7 +12,6 @@ pub mod Queries
 pub mod Heads
 pub mod EachFaults
 pub mod Handing
-pub mod LotRows
 pub mod ActRows
 pub mod Knowing
 pub mod Fitting

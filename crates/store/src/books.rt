@@ -11,11 +11,11 @@ ghost use Rattle.machine.specs.Once.{IsHistory, is_key_of, acts_after, acts_afte
 ghost use Rattle.machine.specs.Standing.{today, RETURNS};
 ghost use Rattle.store.specs.Acting.{IsActed};
 ghost use Rattle.store.specs.Filing.{rows_of, AreKeysOf, IsFiled};
-ghost use Rattle.machine.specs.Queries.{order_shown, short_shown, stock_shown};
+ghost use Rattle.machine.specs.Queries.{order_shown, short_shown, stock_shown, notice_shown};
 ghost use Rattle.overviews.specs.Shown.{books_shown, open_orders_shown, item_names_shown, expiring_shown, bin_shown};
 ghost use Rattle.queries.specs.ShownActs.{acts_shown};
-ghost use Rattle.machine.specs.Views.{card_of_lot, bins_of_lot, shipments_of_lot};
-ghost use Rattle.store.specs.Heads.{card_head_shown, notice_head_shown};
+ghost use Rattle.machine.specs.Views.{card_of_lot};
+ghost use Rattle.store.specs.Heads.{card_head_shown};
 ghost use Rattle.store.specs.ActRows.{AreActsHanded, AreLaterActsHanded};
 ghost use Rattle.store.specs.Handing.{IsHanded, NoBooks};
 ghost use Rattle.store.specs.Queries.{IsShown};
@@ -27,20 +27,20 @@ use crate::acting::act_once;
 use crate::card_rows::hand_card;
 use crate::day::day_left;
 use crate::filing::{every_row_is_sound, file_once};
-use crate::lot_rows::{LotBins, LotShipments, each};
+use crate::notices::show_notice;
 use crate::showing::show;
 use crate::{EachFault, Fault, Reply, RowFault, Tally};
 use books_schema::creation;
 use books_schema::ready_connection::{Leftover, Orderly, ready, settle_found};
 use commands::{
-    BinKind, BinRow, BinUnits, CardRow, Command, ItemRow, Key, MetaRow, OrderView, RepeatRow,
-    ShippedUnits, ShortView, Sink, StockView,
+    BinKind, BinRow, CardRow, Command, ItemRow, Key, MetaRow, NoticeView, OrderView, RepeatRow,
+    ShortView, Sink, StockView,
 };
 use label::{BusinessDay, Day};
 use overviews::{BinView, BooksView, ExpiringView, ItemNamesView, OpenOrdersView};
 use queries::{
-    ActsQuery, BinQuery, BooksQuery, CardHeadQuery, ExpiringQuery, ItemNamesQuery, NoticeHeadQuery,
-    OpenQuery, OrderQuery, Query, ShortQuery, StockQuery,
+    ActsQuery, BinQuery, BooksQuery, CardHeadQuery, ExpiringQuery, ItemNamesQuery, OpenQuery,
+    OrderQuery, Query, ShortQuery, StockQuery,
 };
 use slices::Known;
 use sqlite::{Alter, Connection};
@@ -495,25 +495,19 @@ impl<S: Alter> Books<S> {
         )
     }
 
-    /// The item of a lot's recall notice and the day on which the lot expires, `None` for a lot that never came. An item that
-    /// is not known is refused (U01), and then a lot that is not recalled (N01). Nothing is changed; `Store` where memory or
-    /// the disk did not suffice, and `Foreign` never on books of a history.
-    pub fn notice_head(&mut self, lot: &LotId) -> Result<(ItemRow, Option<Day>), Fault>
+    /// The recall notice of a lot: its item, the day on which it expires, `None` for a lot that never came, the bins with
+    /// units of it by name, and the shipments by number, all of one moment. An item that is not known is refused (U01), and
+    /// then a lot that is not recalled (N01). Nothing is changed; `Store` where memory or the disk did not suffice, and
+    /// `Foreign` never on books of a history.
+    pub fn notice(&mut self, lot: &LotId) -> Result<NoticeView, Fault>
         ensures clean { IsClean S.Store self.new → IsClean S.Store self.old }
         ensures shown { IsClean S.Store self.new → (first : ℤ) (acts : List Act) → IsHistory first acts → HoldsBooks S.Store first acts self.old
-            → IsShown S.Store first acts (notice_head_shown first acts lot.now) result self.new }
+            → IsShown S.Store first acts (notice_shown first acts lot.now) result self.new }
         ensures as_before { IsClean S.Store self.new → AreAsBefore S.Store self.old self.new }
         ensures stays { IsClean S.Store self.new → IsSettled (state S.Store self.new.conn) }
         ensures survives { Survives (state S.Store self.old.conn) (state S.Store self.new.conn) (λ _. ⊥) }
     {
-        let query = NoticeHeadQuery { lot: *lot };
-        show(
-            self.alloc,
-            &mut self.conn,
-            self.day,
-            &mut self.known,
-            &query,
-        )
+        show_notice(self.alloc, &mut self.conn, self.day, &mut self.known, lot)
     }
 
     /// Shows what any query asks, as it stands: the view, or the refusal. Nothing is changed; `Store` where memory or the disk
@@ -544,57 +538,7 @@ impl<S: Alter> Books<S> {
         ensures stays { IsClean S.Store self.new → IsSettled (state S.Store self.new.conn) }
         ensures survives { Survives (state S.Store self.old.conn) (state S.Store self.new.conn) (NoBooks (state S.Store self.old.conn)) }
     {
-        hand_card(self.alloc, &mut self.conn, lot, 0, sink)
-    }
-
-    /// Hands the bins with units of a lot, by name, to the sink, one at a time, until it stops. It is outside
-    /// every transaction, and nothing is changed; `Store` where memory or the disk did not suffice, and `Foreign` and a
-    /// refusal never on books of a history.
-    pub fn each_bin<K: Sink<BinUnits>>(
-        &mut self,
-        lot: &LotId,
-        sink: &mut K,
-    ) -> Result<(), EachFault>
-        ensures clean { IsClean S.Store self.new → IsClean S.Store self.old }
-        ensures handed { IsClean S.Store self.new → (first : ℤ) (acts : List Act) → IsHistory first acts → HoldsBooks S.Store first acts self.old
-            → IsHanded S.Store first acts K.takes K.stops (bins_of_lot first acts lot.now) sink.old sink.new result self.new }
-        ensures as_before { IsClean S.Store self.new → AreAsBefore S.Store self.old self.new }
-        ensures stays { IsClean S.Store self.new → IsSettled (state S.Store self.new.conn) }
-        ensures survives { Survives (state S.Store self.old.conn) (state S.Store self.new.conn) (NoBooks (state S.Store self.old.conn)) }
-    {
-        each::<LotBins, S, K>(
-            self.alloc,
-            &mut self.conn,
-            self.day,
-            &mut self.known,
-            lot,
-            sink,
-        )
-    }
-
-    /// Hands the shipments with units of a lot, by number, to the sink, one at a time, until it stops. It is outside
-    /// every transaction, and nothing is changed; `Store` where memory or the disk did not suffice, and `Foreign` and a
-    /// refusal never on books of a history.
-    pub fn each_shipment<K: Sink<ShippedUnits>>(
-        &mut self,
-        lot: &LotId,
-        sink: &mut K,
-    ) -> Result<(), EachFault>
-        ensures clean { IsClean S.Store self.new → IsClean S.Store self.old }
-        ensures handed { IsClean S.Store self.new → (first : ℤ) (acts : List Act) → IsHistory first acts → HoldsBooks S.Store first acts self.old
-            → IsHanded S.Store first acts K.takes K.stops (shipments_of_lot first acts lot.now) sink.old sink.new result self.new }
-        ensures as_before { IsClean S.Store self.new → AreAsBefore S.Store self.old self.new }
-        ensures stays { IsClean S.Store self.new → IsSettled (state S.Store self.new.conn) }
-        ensures survives { Survives (state S.Store self.old.conn) (state S.Store self.new.conn) (NoBooks (state S.Store self.old.conn)) }
-    {
-        each::<LotShipments, S, K>(
-            self.alloc,
-            &mut self.conn,
-            self.day,
-            &mut self.known,
-            lot,
-            sink,
-        )
+        hand_card(self.alloc, &mut self.conn, lot, sink)
     }
 
     /// Hands the rows of the acts to the sink, in the order in which they are stored, one at a time, until it stops. It is

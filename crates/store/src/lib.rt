@@ -12,7 +12,7 @@ mod fault;
 mod filing;
 mod known;
 pub mod laws;
-mod lot_rows;
+mod notices;
 mod outside;
 mod repeats;
 mod reply;

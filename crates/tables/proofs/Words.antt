@@ -1,7 +1,7 @@
 -- What the proofs of this crate say of what it stands on: each word from where it is defined.
 pub use Rattle.std.specs.List.{AllByRecursion}
-pub use Rattle.std.specs.Prelude.{nat_eq, nat_lt, if◌then◌else◌, ◌↔◌, bytes_eq, Option, Some, option_map, nat_le}
-pub use Rattle.std.proofs.Common.{◌≡◌, ◌<◌, ℕ, true, false, ◌&&◌, List, [], ◌∷◌, codes, map, Result, refl, sym, ap, ap₂, ◌∙◌, subst, arith, Equal, Less, Bool, cond, not, filter, inl, inr, find, None, pos, IsTrue, ◌≢◌, drop, length, int_cmp, negsuc}
+pub use Rattle.std.specs.Prelude.{nat_eq, if◌then◌else◌, ◌↔◌, bytes_eq, Some, option_map, nat_le}
+pub use Rattle.std.proofs.Common.{◌≡◌, ◌<◌, ℕ, true, false, ◌&&◌, List, [], ◌∷◌, codes, map, Result, refl, sym, ap, ap₂, ◌∙◌, subst, arith, Equal, Bool, not, filter, inl, inr, find, None, pos, IsTrue, ◌≢◌, drop, length, int_cmp, negsuc}
 pub use Rattle.std.proofs.lemmas.Bool.{and_parts, cases_Bool, true≢false}
 pub use Rattle.std.proofs.lemmas.Bool.Decides.{nat_tests}
 pub use Rattle.std.proofs.lemmas.Int.{ints}
@@ -25,7 +25,7 @@ pub use Rattle.sqlite.proofs.StateLemmas.{survives_weaker}
 pub use Rattle.sqlite.specs.Cast.{cast_all}
 pub use Rattle.sqlite.specs.declared.types.Value.{Value}
 pub use Rattle.sqlite.specs.Collation.TheVariants.{Binary}
-pub use Rattle.sqlite_keyed.proofs.ListLemmas.{map-map, all-slice_get, all_map, all-filter, all_both, ascending-filter}
+pub use Rattle.sqlite_keyed.proofs.ListLemmas.{map-map, all-slice_get, all_map, all-filter, all_both}
 pub use Rattle.sqlite_rules.proofs.ListLemmas.{all_has}
 pub use Rattle.sqlite_rules.specs.Edit.{id_in}
 pub use Rattle.sqlite_schema.specs.Rules.{are_typed, are_present, is_of, passes as passes_rule}
@@ -40,14 +40,14 @@ pub use Rattle.commands.specs.declared.limits.TheConstants.{ACTS_MAX, SCHEMA_VER
 pub use Rattle.commands.specs.declared.rows.CardRow.{CardRow}
 pub use Rattle.commands.specs.declared.rows.MetaRow.{MetaRow}
 pub use Rattle.table_words.specs.Calls.{Counts}
-pub use Rattle.table_words.specs.Cells.{is_number, number_in, typed, is_the_number, is_word, is_count}
+pub use Rattle.table_words.specs.Cells.{is_number, typed, is_the_number, is_word, is_count}
 pub use Rattle.table_words.specs.Changed.{Changed}
 pub use Rattle.table_words.specs.Found.{AreRows}
 pub use Rattle.table_words.specs.Schema.{schema_with, cards_table, meta_table, the_tables, lines_table}
 pub use Rattle.table_words.specs.Steps.{IsReady, Goes}
 pub use Rattle.table_words.specs.Typed.{same_lot_id, tables_in, AreTyped, is_meta_at, meta_in, has_meta, meta_read, MetaKey, same_meta, meta_key, meta_rows_rows, is_meta, meta_at, with_meta, the_rules, Rule, Keeps, AreTypedAt}
 pub use Rattle.table_words.proofs.CallLemmas.{on_ok_if, if_ok, if_err, query_same}
-pub use Rattle.table_words.proofs.CellLemmas.{and_true, and_assoc, same_word, counted, same_lots, itself_lot, same_number, itself_number, typed-filter, same_the_number, equals_number, both_typed, shown_typed}
+pub use Rattle.table_words.proofs.CellLemmas.{and_true, same_word, counted, same_lots, itself_lot, same_number, itself_number, typed-filter, same_the_number, equals_number, both_typed, shown_typed}
 pub use Rattle.table_words.proofs.KeyLemmas.{itself_both, AtMostOne, one_by_rowid, few, IsSame, are_rows}
 pub use Rattle.table_words.proofs.ListLemmas.{IsRows-filter, filter_same_on, none_counted_pass, rewritten, IsRows-rewritten}
 pub use Rattle.table_words.proofs.Plans.{same, scan, alone}
@@ -59,14 +59,13 @@ pub use Rattle.keyed_rows.specs.Asks.{tests_of}
 pub use Rattle.keyed_rows.specs.Described.{Described, IsLawful, found, rule_of, sound}
 pub use Rattle.keyed_rows.specs.Handed.{Hands, HandsOver}
 pub use Rattle.keyed_rows.specs.declared.each_fault.EachFault.{EachFault}
-pub use Rattle.keyed_rows.proofs.Above.{above, above_count}
 pub use Rattle.keyed_rows.proofs.Keys.{number_rises, number_ties}
 pub use Rattle.keyed_rows.proofs.Laws.{apart, rows_of, typed_rows, changes}
 pub use Rattle.keyed_rows.proofs.OrderedScans.{by_column, stored, are_shown, stored_good, in_key_order}
 pub use Rattle.keyed_rows.proofs.Over.{rest_shown, over}
-pub use Rattle.keyed_rows.proofs.Rising.{one_list, found_wanted}
+pub use Rattle.keyed_rows.proofs.Rising.{one_order}
 pub use Rattle.keyed_rows.proofs.Writing.{ran_writes}
-pub use Rattle.tables.specs.ByKey.{AreCardLines, cards_above}
+pub use Rattle.tables.specs.ByKey.{AreCardLines}
 pub use Rattle.tables.specs.Cards.{cards, cards_laws}
 pub use Rattle.tables.specs.Dropping.{without_rows, DropsBy}
 pub use Rattle.tables.specs.Meta.{meta, meta_laws, change_meta, change_meta_laws}

@@ -1,13 +1,13 @@
 //! The table `cards`.
 
-ghost use Rattle.std.specs.Prelude.{◌≡◌, ◌≤◌, false, List};
+ghost use Rattle.std.specs.Prelude.{◌≡◌, false, List};
 ghost use Rattle.sqlite.specs.State.{HasCleanDisk, Survives};
 ghost use Rattle.sqlite.specs.Held.{state};
 ghost use Rattle.table_words.specs.Steps.{IsReady};
 ghost use Rattle.table_words.specs.Typed.{tables_in, AreTyped, card_mapping};
 ghost use Rattle.commands.specs.declared.rows.CardRow.{CardRow as CardRecord};
 ghost use Rattle.keyed_rows.specs.Handed.{HandsOver, IsLeft};
-ghost use Rattle.tables.specs.ByKey.{AreCardLines, cards_above};
+ghost use Rattle.tables.specs.ByKey.{AreCardLines};
 
 use crate::history_texts::{ADD_CARD, CARDS_BY_ACT, CARDS_OF};
 use commands::limits::{ACTS_MAX, CARD_NOTE_MAX, UNITS_MAX};
@@ -122,28 +122,25 @@ impl SoughtBy<LotId> for Cards {
     }
 }
 
-/// Hands the rows of this lot whose acts are above `above` to the sink, the oldest act first, one at a time, until it stops.
-/// The connection is outside a transaction, and no row is changed.
+/// Hands the rows of this lot to the sink, the oldest act first, one at a time, until it stops. The connection is outside a
+/// transaction, and no row is changed.
 pub fn each_card<S: Alter, K: Sink<CardRow>>(
     alloc: Global,
     conn: &mut Connection<S>,
     lot: &LotId,
-    above: u64,
     sink: &mut K,
 ) -> Result<(), EachFault>
-    requires { above ≤ ACTS_MAX }
     ensures handed { HasCleanDisk (state S.Store conn.new) → IsReady (state S.Store conn.old).now → AreTyped (state S.Store conn.old).now.trees
-        → (rows : List CardRecord) → AreCardLines (tables_in (state S.Store conn.old).now.trees) lot.now rows → HandsOver K.takes K.stops sink.old (cards_above above rows) sink.new result }
+        → (rows : List CardRecord) → AreCardLines (tables_in (state S.Store conn.old).now.trees) lot.now rows → HandsOver K.takes K.stops sink.old rows sink.new result }
     ensures left { HasCleanDisk (state S.Store conn.new) → IsReady (state S.Store conn.old).now → IsLeft (state S.Store conn.old) (state S.Store conn.new) result }
     ensures outside { conn.old.in_transaction ≡ false → conn.new.in_transaction ≡ false }
     ensures survives { Survives (state S.Store conn.old) (state S.Store conn.new) (λ _. ¬ IsReady (state S.Store conn.old).now) }
 {
-    let above = Number::<ACTS_MAX> { number: above };
     each::<Whole<Cards>, S, K>(
         alloc,
         conn,
         CARDS_BY_ACT,
-        &[lot.gtin.value(), lot.lot.value(), above.value()],
+        &[lot.gtin.value(), lot.lot.value()],
         sink,
     )
 }

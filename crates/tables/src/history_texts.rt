@@ -4,7 +4,7 @@ pub(crate) const ADD_CARD: &str =
     "INSERT INTO cards (gtin, lot, act, day, kind, note, qty, rest) VALUES (?1, ?2, ?3, ?4, ?5, ?6, ?7, ?8)";
 
 pub(crate) const CARDS_BY_ACT: &str =
-    "SELECT gtin, lot, act, day, kind, note, qty, rest FROM cards WHERE gtin = ?1 AND lot = ?2 AND act > ?3 ORDER BY act";
+    "SELECT gtin, lot, act, day, kind, note, qty, rest FROM cards WHERE gtin = ?1 AND lot = ?2 ORDER BY act";
 
 pub(crate) const CARDS_OF: &str =
     "SELECT gtin, lot, act, day, kind, note, qty, rest FROM cards WHERE gtin = ?1 AND lot = ?2 ORDER BY rowid";

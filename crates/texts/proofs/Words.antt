@@ -45,11 +45,9 @@ pub use Rattle.commands.specs.declared.rows.ItemRow.{ItemRow}
 pub use Rattle.commands.specs.declared.rows.OrderClass.TheVariants.{Normal}
 pub use Rattle.commands.specs.declared.rows.OrderState.TheVariants.{Open}
 pub use Rattle.commands.specs.declared.rows.RepeatRow.{RepeatRow}
-pub use Rattle.commands.specs.declared.views.BinUnits.{BinUnits}
 pub use Rattle.commands.specs.declared.views.CardView.{CardView}
 pub use Rattle.commands.specs.declared.views.NoticeView.{NoticeView}
 pub use Rattle.commands.specs.declared.views.OrderView.{OrderView}
-pub use Rattle.commands.specs.declared.views.ShippedUnits.{ShippedUnits}
 pub use Rattle.commands.specs.declared.views.ShortView.{ShortView}
 pub use Rattle.commands.proofs.Fields.{AllPrintable, and_three, and_four}
 pub use Rattle.commands.proofs.Joining.{AllLack, PartsLack, lacks_failing, and_both, Lacks, all-append, and_true}
@@ -58,14 +56,13 @@ pub use Rattle.commands.proofs.OneText.{small_line}
 pub use Rattle.commands.proofs.Printing.{is_printable, name_lacks}
 pub use Rattle.texts.specs.Card.{card_text, card_end, card_line}
 pub use Rattle.texts.specs.Lines.{head_line, lot_line, line}
-pub use Rattle.texts.specs.Notice.{notice_text, bin_line, shipment_line, Totals}
+pub use Rattle.texts.specs.Notice.{notice_text, bin_line, shipment_line, notice_start, notice_end}
 pub use Rattle.texts.specs.PickList.{pick_list_text, pick_list_start, item_lines, from_line, item_line, take_lines, take_line}
 pub use Rattle.texts.specs.Reading.{Fields, lot_read, order_read, picking_read, own_key, business_day_read, field_at, line_read, line_at, lines_read, number_read, qty_read, counted_read, least_days_read, line_no_read, delta_read}
 unfoldable pub use Rattle.texts.specs.Reading.{command_read, key_read}
 pub use Rattle.texts.specs.Shortages.{shortages_text, short_line}
-pub use Rattle.texts.specs.Sinks.{AddsCardLine, AddsBinLine, AddsShipmentLine}
+pub use Rattle.texts.specs.Sinks.{AddsCardLine}
 pub use Rattle.texts.specs.Starting.{told_by, Tells}
 pub use Rattle.texts.specs.Writing.{AppendsBeginning, Writes}
 pub use Rattle.texts.specs.declared.sinks.CardLines.{CardLines}
-pub use Rattle.texts.specs.declared.sinks.NoticeLines.{NoticeLines}
 pub use Rattle.texts.specs.declared.start.Start.{Start}

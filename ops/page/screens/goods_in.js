@@ -38,7 +38,7 @@ outbox.addEventListener("final", ({ detail: { state, path, body, line } }) => {
 function delivered(delivery) {
   const lines = cameOf(delivery).sort((a, b) => a.line - b.line);
   if (!lines.length) return [];
-  const row = it => tag("li", {}, tag("span", {}, String(it.line)), tag("span", {}, known(it.gtin) || it.gtin, " ", tag("code", {}, it.lot), " ", it.bin), tag("b", {}, grouped(it.qty)));
+  const row = it => tag("li", {}, tag("span", {}, String(it.line)), tag("span", {}, known(it.gtin) || it.gtin, " ", tag("code", {}, it.lot), " ", tag("span", { class: "lotted" }, it.bin)), tag("b", {}, grouped(it.qty)));
   const save = button(say`As a file (CSV)`, () => download(`delivery-${delivery}`, ["delivery", "line", "gtin", "name", "lot", "bin", "units"],
     lines.map(it => [delivery, it.line, it.gtin, known(it.gtin), it.lot, it.bin, it.qty])), { class: "desk" });
   return [tag("h2", {}, say`${delivery} as it came here: ${counted(lines.length, "line")}, ${counted(sum(lines), "unit")}`),

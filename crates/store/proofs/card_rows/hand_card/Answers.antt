@@ -1,4 +1,4 @@
-use Rattle.store.proofs.Words.{Ok, Err, inl, arith, sym, subst, err_from_is_err_and, HasCleanDisk, state, card_of_lot, AreCardLines, cards_above, card_lines_of, Tables}
+use Rattle.store.proofs.Words.{Ok, Err, inl, arith, sym, subst, err_from_is_err_and, HasCleanDisk, state, card_of_lot, AreCardLines, card_lines_of, Tables}
 use Rattle.store.proofs.HandedOn.{books_on, left_keeps, handed_all, handed_some, handed_none, never_commits_none, never_commits_on, left_stays, handed_stays}
 use Rattle.store.proofs.card_rows.hand_card.Goals as goal
 
@@ -6,7 +6,7 @@ pub returns-in_err-find_open_outside-clause-handed : goal.returns-in_err-find_op
 returns-in_err-find_open_outside-clause-handed g c clean first acts history held =
     let p = err_from_is_err_and c.from_residual.result c.from_residual.ensures.1 in
     rw (p.1, p.2, c.in_err-find_open_outside.ensures.fault)
-    (handed_none first acts g.K.Sink.takes g.K.Sink.stops (cards_above c.args.above (card_of_lot first acts c.args.lot.now)) c.args.sink.now (state g.S.Store c.args.conn.now) (state g.S.Store c.find_open_outside.new.conn) held (c.in_err-find_open_outside.ensures.failed clean))
+    (handed_none first acts g.K.Sink.takes g.K.Sink.stops (card_of_lot first acts c.args.lot.now) c.args.sink.now (state g.S.Store c.args.conn.now) (state g.S.Store c.find_open_outside.new.conn) held (c.in_err-find_open_outside.ensures.failed clean))
 
 pub returns-in_err-find_open_outside-clause-survives : goal.returns-in_err-find_open_outside-clause-survives
 returns-in_err-find_open_outside-clause-survives g c =
@@ -22,7 +22,7 @@ returns-in-Ok-clause-handed g c clean first acts history held =
     let same = c.in_ok-find_open_outside.ensures.open late in
     let books = books_on first acts old mid held same in
     let lines = subst (λ (t : Tables). AreCardLines t l (card_of_lot first acts l)) (sym books.rows.tables) (card_lines_of first acts l) in
-    handed_all first acts g.K.Sink.takes g.K.Sink.stops (cards_above c.args.above (card_of_lot first acts l)) c.args.sink.now c.each_card.new.sink old mid new (left_keeps first acts old mid held (inl same))
+    handed_all first acts g.K.Sink.takes g.K.Sink.stops (card_of_lot first acts l) c.args.sink.now c.each_card.new.sink old mid new (left_keeps first acts old mid held (inl same))
     (c.in-Ok.ensures.handed clean books.ready books.rows.typed (card_of_lot first acts l) lines) (c.in-Ok.ensures.left clean books.ready)
 
 pub returns-in-Ok-clause-survives : goal.returns-in-Ok-clause-survives
@@ -40,7 +40,7 @@ returns-in-Err-clause-handed g c clean first acts history held =
     let books = books_on first acts old mid held same in
     let lines = subst (λ (t : Tables). AreCardLines t l (card_of_lot first acts l)) (sym books.rows.tables) (card_lines_of first acts l) in
     rw c.from.ensures
-    (handed_some first acts g.K.Sink.takes g.K.Sink.stops (cards_above c.args.above (card_of_lot first acts l)) c.args.sink.now c.each_card.new.sink old mid new c.in-Err.fault (left_keeps first acts old mid held (inl same))
+    (handed_some first acts g.K.Sink.takes g.K.Sink.stops (card_of_lot first acts l) c.args.sink.now c.each_card.new.sink old mid new c.in-Err.fault (left_keeps first acts old mid held (inl same))
     (c.in-Err.ensures.handed clean books.ready books.rows.typed (card_of_lot first acts l) lines) (c.in-Err.ensures.left clean books.ready))
 
 pub returns-in-Err-clause-survives : goal.returns-in-Err-clause-survives
