@@ -11,7 +11,8 @@ pub use Rattle.std.proofs.lemmas.List.{map-append}
 pub use Rattle.std.proofs.lemmas.List.Elements.{All-weaker, Contains-append_left, Contains-push, All-contains, Contains-get_or}
 pub use Rattle.std.proofs.lemmas.Slice.Eq.{slice_eq-Decides}
 pub use Rattle.sqlite.specs.Held.{state}
-pub use Rattle.sqlite.specs.State.{Survives, State}
+pub use Rattle.sqlite.specs.State.{Survives, State, HasCleanDisk}
+pub use Rattle.sqlite.proofs.StateLemmas.{survives_then}
 pub use Rattle.sqlite_trees.specs.Tree.{Trees}
 pub use Rattle.sqlite_trees.specs.declared.store.Store.{Ghosts}
 pub use Rattle.values.specs.declared.fault.LabelFault.{LabelFault}
@@ -102,7 +103,8 @@ pub use Rattle.wire.proofs.LogLines.{line_of_beginning, begun_by}
 pub use Rattle.house.specs.Answers.{short_answer, outcome_answer, not_served, is_served, act_answer, acts_with, Delivered, scan_answer, acts_scanned, receipt, acts_filed, acts_asked, acts_of, no_memory, answer_of, cause_answer, file_outcome_answer, file_fault_answer, file_answer, fault_answer, status_of, view_answer, foreign_books, label_answer, query_answer, ask_answer, cause_row_answer}
 pub use Rattle.house.specs.Asking.{told_answer, IsDone, IsUndone, scanned_answer, scanned_acts, told_file_answer, asked_answer, fault_shown, IsWritten, IsTextOf, act_of, delivered}
 pub use Rattle.house.specs.House.{Step, Run, IsInPlace, bytes_of, Answers, LeavesBooks, StepsTo, RunsTo, texts_of, IsOneFurther, IsLongIfOk, IsAskedInPlace, books_of}
-pub use Rattle.house.specs.Keeping.{TellsNoAct, NoHistory, IsKeptIfTold}
+pub use Rattle.house.specs.Keeping.{TellsNoAct, NoHistory, IsKeptIfTold, second_kept}
+pub use Rattle.house.specs.declared.keeping.KeepFault.{KeepFault}
 pub use Rattle.house.specs.Laws.{RefusedRequestsChangeNothing, BooksAreNeverForeign}
 pub use Rattle.house.specs.LotTexts.{Stays, Tells, text_answer, card_from, Puts, shown_text, stopped_at}
 pub use Rattle.house.specs.Serving.{IsWhole, HasLine, IsLogged, sent_of}
