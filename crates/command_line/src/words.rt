@@ -128,14 +128,19 @@ const AFTER_HELP: &str = "Examples:
 
 Exit status: 0 where the line was done, 2 where the words are no line of the
 program, and else 1. Then standard error has `lotd: ` and one of these:
-  store          the file is not there; or a server has it open; or it is no
-                 database, or has a second name; or the user may not write it;
-                 or disk or memory did not suffice
-  foreign books  other tables than the books', or (init) there are tables
-  io             the port is taken, a file to take in cannot be read, or the
-                 output or a line of the log cannot be written
-  value          a day, a GTIN or a lot breaks its rule
-  U02 row 3, ..  what is asked is refused, by this code
+  store          PATH is not there (only init makes it), is no database, is a folder
+                 or has a second name; or the user may not write it, its folder or
+                 PATH-wal: ls -l PATH*. Or another lotd or sqlite3 has it open:
+                 fuser PATH. Or disk or memory did not suffice: df, free, dmesg
+  foreign books  init: there are tables at PATH already, which stay as they are; else
+                 PATH has other tables than the books': sqlite3 PATH .schema
+  io             serve: another program has the port: ss -ltnp. import, apply: FILE
+                 cannot be read: ls -l FILE. Or the output or a line of the log
+                 cannot be written
+  value          the day is none from 2000-01-01 to 2199-12-31, the GTIN has not 14
+                 digits or a wrong last one, the LOT has a space or over 20 bytes, or
+                 more than two FILEs are given by --acts
+  U02 row 3, ..  what is asked is refused, by this code; the README has the codes
 
 or, where an audit finds that the rows are not those of the acts, one of these:
   differs stock 09506000134352 AB12 A-01
