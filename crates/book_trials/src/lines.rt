@@ -3,7 +3,7 @@
 use crate::ends::Receiver;
 use books_schema::ready_connection::{Leftover, Orderly};
 use command_line::{BooksAt, Fault, FilesAt, Work, run};
-use line_work::{do_work, listen};
+use line_work::{ActsDisks, do_work, listen};
 use sqlite::{Alter, Connection};
 use sqlite_disk::Memory;
 use std::convert::AsStr;
@@ -34,7 +34,7 @@ impl<S: Orderly + Drop, F: FilesAt> BooksAt for OverOne<'_, S, F> {
             Ok(listener) => listener,
             Err(_) => return (Leftover::Connection(conn), Err(Fault::Io)),
         };
-        let mut acts: Option<Memory> = None;
+        let mut acts: Option<ActsDisks<Memory, Memory>> = None;
         let at = listener.as_ref();
         match do_work(host, files, at, &mut acts, conn, work, out, log) {
             Ok((conn, end)) => (Leftover::Connection(conn), end),

@@ -1,4 +1,5 @@
 pub mod FirstPage
-pub mod Lines
 pub mod Opened
+pub mod ActsFiles
+pub mod Lines
 pub mod Program

@@ -1,5 +1,5 @@
 -- What a line does with the books in a file.
-use Rattle.std.specs.Prelude.{◌≡◌, ◌⊎◌, ℕ, List, Bool, true, false, Option, Some, is_some, Result, Ok, Err}
+use Rattle.std.specs.Prelude.{◌≡◌, ◌⊎◌, ℕ, List, Option, Result, Ok, Err}
 use Rattle.sqlite_disk.specs.declared.Disk.{Ghosts}
 use Rattle.sqlite_disk.specs.declared.Files.{Files}
 use Rattle.sqlite_wal.specs.Reads.{AreClean}
@@ -16,46 +16,31 @@ use Rattle.books_schema.specs.declared.ready_connection.Leftover.{Leftover}
 use Rattle.books_schema.specs.declared.ready_connection.Leftover.TheVariants.{Connection, Store as StoreOf}
 use Rattle.store.specs.Opening.{IsCleanLeft}
 use Rattle.command_line.specs.declared.fault.Fault.{Fault}
-use Rattle.command_line.specs.declared.fault.Fault.TheVariants.{Acts, Io, Store}
+use Rattle.command_line.specs.declared.fault.Fault.TheVariants.{Io, Store}
 use Rattle.command_line.specs.declared.running.Work.{Work}
-use Rattle.command_line.specs.declared.running.Work.TheVariants.{Make, Serve, Import, Card, Notice, History, Audit, Apply}
 use Rattle.line_work.specs.Lines.{LosesNoLineIf}
 use Rattle.line_work.specs.Works.{IsServer, IsNotBegun, IsWorked, IsJudged, IsTold, IsKeptBeside}
 use Rattle.books_file.specs.declared.left.FilesLeft.{FilesLeft}
 use Rattle.books_file.specs.declared.left.FilesLeft.TheVariants as left
 use Rattle.books_file.specs.declared.left.NoActs.{NoActs}
-use Rattle.books_file.specs.declared.left.NoActs.TheVariants as closed
-use Rattle.books_file.specs.Opened.{HoldsOnly, HasFailed}
+use Rattle.line_work.specs.declared.disks.ActsDisks.{ActsDisks}
+use Rattle.books_file.specs.ActsFiles.{AreFoundBeside, IsCause, fault_of_none}
+use Rattle.books_file.specs.Opened.{HasFailed}
 
 -- this is the store of what is left of a connection, and since then it was only rolled back: a stop leaves nothing new
 abbrev pub IsStoreOf : {S : Type 0} → trees.Ghosts S → Leftover S → S → Type 0
 IsStoreOf g (Connection conn) store = IsQuiet g.view g.faults g.recovers g.is_shielded conn.store store
 IsStoreOf g (StoreOf it) store = store ≡ it
 
--- whether a file of the acts is named
-abbrev pub names_acts : Work → Bool
-names_acts (Make day) = false
-names_acts (Serve port max log acts) = is_some acts
-names_acts (Import file acts) = is_some acts
-names_acts (Card lot) = false
-names_acts (Notice lot) = false
-names_acts History = false
-names_acts (Audit given) = false
-names_acts (Apply file) = false
-
--- the file of the acts was opened exactly where one is named, and held these bytes
-abbrev pub IsFoundBeside : {A : Type 0} → Ghosts A → (held : List ℕ) → Work → Option A → Type 0
-IsFoundBeside {A} h held work found = (is_some found ≡ names_acts work) × ((file : A) → found ≡ Some file → HoldsOnly h held file)
-
 -- how a line ends whose files could not be closed after its work
 abbrev pub closing_fault : Result Unit Fault → Fault
 closing_fault (Ok done) = Store
 closing_fault (Err fault) = fault
 
--- `held` is what the file and its log held, `before` and `after` are the file of the acts, if there is one, `files` has the bytes of the
+-- `held` is what the file and its log held, `before` and `after` are the files of the acts, if there are any, `files` has the bytes of the
 -- goods-in files by their names, where they are known, and `old`, `new`, `log_old` and `log_new` are what the output and the log held and
 -- hold. What is said of books is said of a disk that has returned what was written until the end.
-module _ {D A : Type 0} (g : Ghosts D) (h : Ghosts A) (held : Image) (files : List ℕ → Option (List ℕ)) (before after : Option A) (work : Work) (old new log_old log_new : Option (List ℕ)) where
+module _ {D A B : Type 0} (g : Ghosts D) (h : Ghosts A) (i : Ghosts B) (held : Image) (files : List ℕ → Option (List ℕ)) (before after : Option (ActsDisks A B)) (work : Work) (old new log_old log_new : Option (List ℕ)) where
   -- the connection was opened over the database that the file held
   abbrev pub IsOver : Held (FileStore D g) → Type 0
   IsOver opened = IsOpened opened × FindsIn held (file_state opened)
@@ -66,10 +51,10 @@ module _ {D A : Type 0} (g : Ghosts D) (h : Ghosts A) (held : Image) (files : Li
     pub judged : IsJudged over_files opened work (Ok (closed, end))
     pub worked : HasCleanDisk (file_state closed) → IsWorked over_files before opened work log_old log_new end closed
     pub told : HasCleanDisk (file_state closed) → IsTold over_files files before opened work old new end closed
-    -- what is done is in the file of the acts before it is told
-    pub kept : HasCleanDisk (file_state closed) → IsKeptBeside over_files h files opened work old new log_old log_new end closed before after
-    -- no whole line of that file is lost, whatever the books are
-    pub lines : LosesNoLineIf h before after
+    -- what is done is in the files of the acts before it is told
+    pub kept : HasCleanDisk (file_state closed) → IsKeptBeside over_files h i files opened work old new log_old log_new end closed before after
+    -- no whole line of those files is lost, whatever the books are
+    pub lines : LosesNoLineIf h i before after
 
   -- the file was opened, the work was done, and the file closed
   pub record IsLineDone (end : Result Unit Fault) (left : Files D) : Type 0 where
@@ -104,7 +89,7 @@ module _ {D A : Type 0} (g : Ghosts D) (h : Ghosts A) (held : Image) (files : Li
     pub how : IsLineIdle opened left end ⊎ IsUnclosed opened left end
     pub is_store : IsStoreOf over_files left store
 
-  -- nothing was printed or logged, and the file of the acts is as it was
+  -- nothing was printed or logged, and the files of the acts are as they were
   abbrev pub IsIdle : Type 0
   IsIdle = (new ≡ old) × (log_new ≡ log_old) × (after ≡ before)
 
@@ -117,10 +102,9 @@ module _ {D A : Type 0} (g : Ghosts D) (h : Ghosts A) (held : Image) (files : Li
   IsBooksEnd end (left.Closed kept) = IsLineDone end kept
   IsBooksEnd end (left.Store store) = IsLineBroken end store
 
--- how a line ends for which the file of the acts is not open: there are no books at the path, or the system did not open that file
-abbrev pub IsNoActs : {T : Type 0} → Work → Result Unit Fault → NoActs T → Type 0
-IsNoActs work end (closed.Unopened start) = end ≡ Err Store
-IsNoActs work end (closed.NotOpened it) = (names_acts work ≡ true) × (end ≡ Err Acts)
+-- how a line ends for which no file of the acts is open: there are no books at the path, or the system did not open one that is named
+abbrev pub IsNoActs : {T U : Type 0} → Work → Result Unit Fault → NoActs T U → Type 0
+IsNoActs work end none = IsCause work none × (end ≡ Err (fault_of_none none))
 
 -- the files of the books were not touched
 abbrev pub AreUntouched : {D S : Type 0} → (g : Ghosts D) → FilesLeft D S g → Type 0
@@ -130,10 +114,10 @@ AreUntouched g (left.Failed kept) = ⊥
 AreUntouched g (left.Closed kept) = ⊥
 AreUntouched g (left.Store store) = ⊥
 
--- Where the file of the acts was not opened, those of the books are untouched, and nothing is printed or logged. Else it was opened if one
--- is named, held these bytes, and then the line ended so.
-abbrev pub IsLineEnd : {D S A T : Type 0} → (g : Ghosts D) → Ghosts A → Image → (acts_held : List ℕ) → (List ℕ → Option (List ℕ)) → Work → (old new log_old log_new : Option (List ℕ)) → Result Unit Fault → FilesLeft D S g → Result (Option A) (NoActs T) → Type 0
-IsLineEnd {D} {S} {A} {T} g h held acts_held files work old new log_old log_new end books (Err why) =
+-- Where a file of the acts was not opened, those of the books are untouched, and nothing is printed or logged. Else they were opened if they
+-- are named, held these bytes, and then the line ended so.
+abbrev pub IsLineEnd : {D S A B T U : Type 0} → (g : Ghosts D) → Ghosts A → Ghosts B → Image → (acts_held second_held : List ℕ) → (List ℕ → Option (List ℕ)) → Work → (old new log_old log_new : Option (List ℕ)) → Result Unit Fault → FilesLeft D S g → Result (Option (ActsDisks A B)) (NoActs T U) → Type 0
+IsLineEnd {D} {S} {A} {B} {T} {U} g h i held acts_held second_held files work old new log_old log_new end books (Err why) =
     AreUntouched g books × IsNoActs work end why × (new ≡ old) × (log_new ≡ log_old)
-IsLineEnd {D} {S} {A} {T} g h held acts_held files work old new log_old log_new end books (Ok after) =
-    (before : Option A) × IsFoundBeside h acts_held work before × IsBooksEnd g h held files before after work old new log_old log_new end books
+IsLineEnd {D} {S} {A} {B} {T} {U} g h i held acts_held second_held files work old new log_old log_new end books (Ok after) =
+    (before : Option (ActsDisks A B)) × AreFoundBeside h i acts_held second_held work before × IsBooksEnd g h i held files before after work old new log_old log_new end books

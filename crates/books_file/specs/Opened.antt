@@ -1,5 +1,5 @@
 -- What the files of a line held as they were opened.
-use Rattle.std.specs.Prelude.{◌≡◌, ℕ, List, Option, Some}
+use Rattle.std.specs.Prelude.{◌≡◌, ℕ, List}
 use Rattle.sqlite_disk.specs.Disk.{Only}
 use Rattle.sqlite_disk.specs.declared.Disk.{Ghosts}
 use Rattle.sqlite_disk.specs.declared.Files.{Files}
@@ -12,10 +12,6 @@ use Rattle.books_file.specs.declared.opening.NoBooks.TheVariants as none
 -- the file holds these bytes, and a stop leaves nothing else of it
 abbrev pub HoldsOnly : {A : Type 0} → Ghosts A → (held : List ℕ) → A → Type 0
 HoldsOnly h held file = (h.seen file ≡ held) × Only held (h.may_leave file)
-
--- there is a file, which holds these bytes
-abbrev pub IsThere : {A : Type 0} → Ghosts A → (held : List ℕ) → Option A → Type 0
-IsThere {A} h held found = (file : A) × (found ≡ Some file) × HoldsOnly h held file
 
 -- The file of the books and its log were opened, but not as a database. They held what they held, also after whatever stop, and what is
 -- left of them is that, or what `LeavesFiles` says of an open that failed.

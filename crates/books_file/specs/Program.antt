@@ -20,8 +20,8 @@ IsNoWordsTold Closed status old new = (status ≡ REFUSED) × AppendsBeginning o
 
 -- The line that the words are was run over files of the host; what the files that it names for reading hold nothing says. Where there
 -- are no words, no file was opened and nothing was printed.
-abbrev pub IsProgramRun : {D S A T : Type 0} → (g : Ghosts D) → (h : Ghosts A) → Image → (acts_held : List ℕ) → (words : Result (List (List ℕ)) NoWords) → (old new log_old log_new : Option (List ℕ)) → (status : ℕ) → Option (LineLeft D S A T g) → Type 0
-IsProgramRun g h held acts_held (Ok words) old new log_old log_new status left =
-    IsRun (λ db work o n lo ln end l. IsLineEnd g h held acts_held (λ _. None) work o n lo ln end l.books l.acts) words old new log_old log_new status left
-IsProgramRun g h held acts_held (Err why) old new log_old log_new status left =
+abbrev pub IsProgramRun : {D S A B T U : Type 0} → (g : Ghosts D) → (h : Ghosts A) → (i : Ghosts B) → Image → (acts_held second_held : List ℕ) → (words : Result (List (List ℕ)) NoWords) → (old new log_old log_new : Option (List ℕ)) → (status : ℕ) → Option (LineLeft D S A B T U g) → Type 0
+IsProgramRun g h i held acts_held second_held (Ok words) old new log_old log_new status left =
+    IsRun (λ db work o n lo ln end l. IsLineEnd g h i held acts_held second_held (λ _. None) work o n lo ln end l.books l.acts) words old new log_old log_new status left
+IsProgramRun g h i held acts_held second_held (Err why) old new log_old log_new status left =
     IsNoWordsTold why status log_old log_new × (new ≡ old) × (left ≡ None)

@@ -1,9 +1,13 @@
 //! What is left of the files of books.
 
+ghost use Rattle.std.specs.Prelude.{◌≡◌};
+ghost use Rattle.books_file.specs.ActsFiles.{fault_of_none as fault_of_none_lem};
 ghost use Rattle.books_file.specs.Lines.{IsStoreOf};
 
 use crate::opening::NotOpened;
 use books_schema::ready_connection::Leftover;
+use command_line::Fault;
+use line_work::ActsDisks;
 use sqlite::{Alter, FileStore, Files};
 use sqlite_disk::Disk;
 
@@ -22,21 +26,23 @@ pub enum FilesLeft<D: Disk, S> {
     Store(FileStore<D>),
 }
 
-/// Why no file of the acts is left, likewise.
+/// Why no file of the acts is left, likewise. `A` is what is supposed of the first, and `B` of the second.
 #[derive(Drop)]
-pub enum NoActs<A> {
-    /// It was not touched.
-    Unopened(A),
-    /// The system did not open it.
+pub enum NoActs<A, B> {
+    /// Neither was touched.
+    Unopened(A, B),
+    /// The system did not open the first.
     NotOpened(NotOpened<A>),
+    /// It opened the first, and not the second.
+    SecondNotOpened(NotOpened<B>),
 }
 
-/// What a line leaves of the files of the books, and of that of the acts.
+/// What a line leaves of the files of the books, and of those of the acts.
 #[derive(Drop)]
-pub struct LineLeft<D: Disk, S, A: Disk, T> {
+pub struct LineLeft<D: Disk, S, A: Disk, B: Disk, T, U> {
     pub books: FilesLeft<D, S>,
-    /// The file of the acts, where the line named one, or why it was not opened.
-    pub acts: Result<Option<A>, NoActs<T>>,
+    /// The files of the acts, where the line named one or two, or why they were not opened.
+    pub acts: Result<Option<ActsDisks<A, B>>, NoActs<T, U>>,
 }
 
 // It is written out, so that a caller does not prove again how each part is dropped.
@@ -49,6 +55,17 @@ impl<D: Disk + Drop, S: Drop> Drop for FilesLeft<D, S> {
             FilesLeft::Closed(_files) => {}
             FilesLeft::Store(_store) => {}
         }
+    }
+}
+
+/// Why no file of the acts is open, as the line tells it.
+pub(crate) fn fault_of_none<A, B>(none: &NoActs<A, B>) -> Fault
+    ensures { result ≡ fault_of_none_lem none.now }
+{
+    match none {
+        NoActs::Unopened(..) => Fault::Store,
+        NoActs::NotOpened(_) => Fault::Acts,
+        NoActs::SecondNotOpened(_) => Fault::SecondActs(None),
     }
 }
 

@@ -5,7 +5,7 @@ ghost use Rattle.sqlite.specs.Files.{file_state, IsOpened};
 ghost use Rattle.sqlite.specs.Start.{FindsIn};
 ghost use Rattle.sqlite.specs.State.{HasCleanDisk};
 ghost use Rattle.sqlite.specs.WalFiles.{image_at};
-ghost use Rattle.books_file.specs.Opened.{IsThere, IsNoBooks};
+ghost use Rattle.books_file.specs.Opened.{HoldsOnly, IsNoBooks};
 
 use sqlite::{Connection, FileFrom, FileStore, Files, Leftover, Start};
 use sqlite_disk::Disk;
@@ -49,14 +49,14 @@ pub(crate) fn open_acts<A: Start>(
     rt: &HostRuntime,
     name: &str,
     start: A,
-) -> Result<Option<FileFrom<A>>, NotOpened<A>>
-    ensures { IfOk result (IsThere ⟦<FileFrom<A> as Disk>⟧ A.Start.db) }
+) -> Result<FileFrom<A>, NotOpened<A>>
+    ensures { IfOk result (HoldsOnly ⟦<FileFrom<A> as Disk>⟧ A.Start.db) }
 {
     match open(rt, name, start) {
         Ok(files) => {
             let Files { log, db } = files;
             drop(log);
-            Ok(Some(db))
+            Ok(db)
         }
         Err(_) => Err(NotOpened { of: PhantomData }),
     }

@@ -111,21 +111,32 @@ impl<'a, R: LockFiles> FilesAtPath<'a, R> {
         })
     }
 
-    /// Opens the file in which the page is written, and locks it. It is still the one at its path: no other process has put
-    /// it in its place meanwhile.
+    /// Opens the file in which the page is written, and locks it. It makes it where nothing is there, and takes one that an
+    /// earlier process left. A link, a pipe or a file with a second name is another program's: it is not opened. The file is
+    /// still the one at its path: no other process has put it in its place meanwhile.
     fn open_locked(&self) -> io::Result<R::File> {
-        let mut options = OpenOptions::new();
-        let file = options
-            .write(true)
-            .create(true)
-            .open(self.files, self.beside.as_str())?;
+        let file = self.open_beside()?;
         self.files.try_lock(&file)?;
         let here = fs::symlink_metadata(self.files, self.beside.as_str())?;
-        if file.metadata()?.ino() == here.ino() {
+        let found = file.metadata()?;
+        if is_plain(&here) && found.dev() == here.dev() && found.ino() == here.ino() {
             Ok(file)
         } else {
             Err(io::Error::from(ErrorKind::WouldBlock))
         }
+    }
+
+    fn open_beside(&self) -> io::Result<R::File> {
+        let mut options = OpenOptions::new();
+        options.write(true);
+        match fs::symlink_metadata(self.files, self.beside.as_str()) {
+            Ok(found) if is_plain(&found) => {}
+            Ok(_) => return Err(io::Error::from(ErrorKind::AlreadyExists)),
+            Err(_) => {
+                options.create_new(true);
+            }
+        }
+        options.open(self.files, self.beside.as_str())
     }
 }
 
@@ -199,6 +210,13 @@ fn is_vacant(found: io::Result<Metadata>) -> bool
         Ok(found) => found.is_file() && found.len() == 0,
         Err(error) => error.kind() == ErrorKind::NotFound,
     }
+}
+
+/// Whether this is a file with one name.
+fn is_plain(found: &Metadata) -> bool
+    ensures { result ≡ true → IsFile (file_type found.now) }
+{
+    found.is_file() && found.nlink() == 1
 }
 
 /// Writes the page to the file, in place of what it has, with the permissions of the one that was found.

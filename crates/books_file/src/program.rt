@@ -44,22 +44,31 @@ pub fn words_given(rt: &HostRuntime) -> Result<Vec<String>, NoWords> {
 }
 
 /// Runs the line that the words are, over files of the host, and gives what is left of them and the exit status. `start`
-/// says what is supposed of the file of the books, and `acts` of that of the acts.
-pub fn run_words<S: Start, A: Start, W: Write, E: Write>(
+/// says what is supposed of the file of the books, `acts` of that of the acts, and `second` of a second one.
+pub fn run_words<S: Start, A: Start, B: Start, W: Write, E: Write>(
     rt: &HostRuntime,
     start: S,
     acts: A,
+    second: B,
     words: &Result<Vec<String>, NoWords>,
     out: &mut W,
     err: &mut E,
-) -> (Option<LineLeft<FileFrom<S>, S, FileFrom<A>, A>>, u8)
-    ensures run { IsProgramRun ⟦<FileFrom<S> as Disk>⟧ ⟦<FileFrom<A> as Disk>⟧ (image_at S.Start) A.Start.db (result_map_both (λ v. map (λ s. s.bytes.items) v.items) (λ why. why) words.now) (W.contents out.old) (W.contents out.new) (E.contents err.old) (E.contents err.new) result.1 result.0 }
+) -> (
+    Option<LineLeft<FileFrom<S>, S, FileFrom<A>, FileFrom<B>, A, B>>,
+    u8,
+)
+    ensures run { IsProgramRun ⟦<FileFrom<S> as Disk>⟧ ⟦<FileFrom<A> as Disk>⟧ ⟦<FileFrom<B> as Disk>⟧ (image_at S.Start) A.Start.db B.Start.db (result_map_both (λ v. map (λ s. s.bytes.items) v.items) (λ why. why) words.now) (W.contents out.old) (W.contents out.new) (E.contents err.old) (E.contents err.new) result.1 result.0 }
     ensures range { result.1 ≤ MISUSED }
 {
     match words {
         Ok(words) => run(
             rt.alloc(),
-            InFiles { rt, start, acts },
+            InFiles {
+                rt,
+                start,
+                acts,
+                second,
+            },
             words.as_slice(),
             out,
             err,

@@ -1,4 +1,5 @@
 pub mod Printing
 pub mod Ending
 mod LineRead
+mod NamesRead
 mod Telling

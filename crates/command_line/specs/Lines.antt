@@ -14,10 +14,10 @@ use Rattle.label.specs.Labels.{label_read}
 use Rattle.values.specs.declared.fault.LabelFault.{LabelFault}
 use Rattle.label.specs.declared.gs1.Label.{Label as LabelSaid}
 use Rattle.command_line.specs.Audits.{audit_code, audit_place}
-use Rattle.command_line.specs.Applying.{apply_code, apply_place}
+use Rattle.command_line.specs.Applying.{apply_code, apply_place, apply_after}
 use Rattle.command_line.specs.declared.version.TheConstants.{VERSION}
 use Rattle.command_line.specs.declared.fault.Fault.{Fault}
-use Rattle.command_line.specs.declared.fault.Fault.TheVariants.{Usage, Label, File, Row, Refused, Audit, Apply, Acts, Value, Io, Store, Foreign}
+use Rattle.command_line.specs.declared.fault.Fault.TheVariants.{Usage, Label, File, Row, Refused, Audit, Apply, Acts, SecondActs, Value, Io, Store, Foreign}
 
 -- what `lotd label` prints
 abbrev pub label_lines : LabelSaid → List ℕ
@@ -37,6 +37,7 @@ told_code (Refused why) = refusal_code why
 told_code (Audit fault) = audit_code fault
 told_code (Apply fault) = apply_code fault
 told_code Acts = codes "acts"
+told_code (SecondActs misfit) = codes "acts 2"
 told_code Value = codes "value"
 told_code Io = codes "io"
 told_code Store = codes "store"
@@ -45,12 +46,14 @@ told_code Foreign = codes "foreign books"
 abbrev pub row_told : ℕ → List ℕ
 row_told row = codes " row " ++ decimal row
 
--- the row of a file, the row or the table of the books, the act, or the line of a history that is named
+-- the row of a file, the row or the table of the books, the act, or the line of a history that is named; of a second file of the acts that
+-- does not fit, why
 abbrev pub told_place : Fault → List ℕ
 told_place (File (RowOfFile row)) = row_told row
 told_place (Row row why) = row_told row
 told_place (Audit fault) = audit_place fault
 told_place (Apply fault) = apply_place fault
+told_place (SecondActs (Some fault)) = apply_after fault
 told_place _ = []
 
 -- the line that tells a fault
@@ -96,5 +99,6 @@ IsRefused day text old new (Refused why) = ⊥
 IsRefused day text old new (Audit fault) = ⊥
 IsRefused day text old new (Apply fault) = ⊥
 IsRefused day text old new Acts = ⊥
+IsRefused day text old new (SecondActs misfit) = ⊥
 IsRefused day text old new Store = ⊥
 IsRefused day text old new Foreign = ⊥

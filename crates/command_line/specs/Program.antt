@@ -3,11 +3,11 @@ use Rattle.std.specs.Prelude.{◌≡◌, ℕ, List, [], ◌∷◌, true, false, 
 use Rattle.clap.specs.Simple.{App, app_of, new_app, new_rule, on_top, with_rule, with_subcommand}
 use Rattle.clap.specs.Walk.{Rule, Text}
 use Rattle.clap.specs.declared.builder.command.Command.TheViews.{out-Command as fields_of}
-use Rattle.clap.specs.declared.builder.action.ArgAction.TheVariants.{Set, SetTrue}
+use Rattle.clap.specs.declared.builder.action.ArgAction.TheVariants.{Set, Append, SetTrue}
 use Rattle.clap.specs.declared.builder.command.Command.{Command}
 use Rattle.clap.specs.declared.builder.value_parser.ValueParser.TheVariants.{Signed}
 use Rattle.command_line.specs.declared.words.Kind.{Kind}
-use Rattle.command_line.specs.declared.words.Kind.TheVariants.{Bare, Named, Optional, Port, Connections, Flag}
+use Rattle.command_line.specs.declared.words.Kind.TheVariants.{Bare, Named, Optional, Repeated, Port, Connections, Flag}
 use Rattle.command_line.specs.declared.words.Value.{Value}
 use Rattle.command_line.specs.declared.words.Words.{Words}
 
@@ -28,6 +28,7 @@ abbrev pub kind_rule : Kind → Text → Rule
 kind_rule Bare id = text_rule id
 kind_rule Named id = named_rule id
 kind_rule Optional id = record (named_rule id) { required = false }
+kind_rule Repeated id = record (named_rule id) { required = false; action = Some Append }
 kind_rule Port id = number_rule 1024 65535 id
 kind_rule Connections id = number_rule 1 1000000 id
 kind_rule Flag id = record (new_rule id) { long = Some id; action = Some SetTrue }
@@ -40,8 +41,8 @@ LineWords = Text × List (Text × Kind)
 abbrev pub program_lines : List LineWords
 program_lines =
     (codes "init", (codes "db", Named) ∷ (codes "day", Named) ∷ [])
-    ∷ (codes "serve", (codes "db", Named) ∷ (codes "port", Port) ∷ (codes "max", Connections) ∷ (codes "log", Flag) ∷ (codes "acts", Optional) ∷ [])
-    ∷ (codes "import", (codes "db", Named) ∷ (codes "file", Bare) ∷ (codes "acts", Optional) ∷ [])
+    ∷ (codes "serve", (codes "db", Named) ∷ (codes "port", Port) ∷ (codes "max", Connections) ∷ (codes "log", Flag) ∷ (codes "acts", Repeated) ∷ [])
+    ∷ (codes "import", (codes "db", Named) ∷ (codes "file", Bare) ∷ (codes "acts", Repeated) ∷ [])
     ∷ (codes "card", (codes "db", Named) ∷ (codes "gtin", Bare) ∷ (codes "lot", Bare) ∷ [])
     ∷ (codes "notice", (codes "db", Named) ∷ (codes "gtin", Bare) ∷ (codes "lot", Bare) ∷ [])
     ∷ (codes "history", (codes "db", Named) ∷ [])

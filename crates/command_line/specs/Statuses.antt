@@ -7,7 +7,7 @@ use Rattle.clap.specs.declared.error.kind.ErrorKind.TheVariants.{DisplayHelp, Di
 use Rattle.texts.specs.Writing.{AppendsBeginning}
 use Rattle.command_line.specs.Lines.{told_line, version_line}
 use Rattle.command_line.specs.declared.fault.Fault.{Fault}
-use Rattle.command_line.specs.declared.fault.Fault.TheVariants.{Usage, Label, File, Row, Refused, Audit, Apply, Acts, Value, Io, Store, Foreign}
+use Rattle.command_line.specs.declared.fault.Fault.TheVariants.{Usage, Label, File, Row, Refused, Audit, Apply, Acts, SecondActs, Value, Io, Store, Foreign}
 use Rattle.command_line.specs.declared.running.TheConstants.{DONE, REFUSED, MISUSED}
 
 -- words that are no line are misused; a call for help is done, or refused where the help could not be written
@@ -25,6 +25,7 @@ IsStatusOf (Err (Refused why)) status = status ≡ REFUSED
 IsStatusOf (Err (Audit fault)) status = status ≡ REFUSED
 IsStatusOf (Err (Apply fault)) status = status ≡ REFUSED
 IsStatusOf (Err Acts) status = status ≡ REFUSED
+IsStatusOf (Err (SecondActs misfit)) status = status ≡ REFUSED
 IsStatusOf (Err Value) status = status ≡ REFUSED
 IsStatusOf (Err Io) status = status ≡ REFUSED
 IsStatusOf (Err Store) status = status ≡ REFUSED
@@ -46,6 +47,7 @@ IsOutputOf (Err (Refused why)) old new status = new ≡ old
 IsOutputOf (Err (Audit fault)) old new status = new ≡ old
 IsOutputOf (Err (Apply fault)) old new status = new ≡ old
 IsOutputOf (Err Acts) old new status = new ≡ old
+IsOutputOf (Err (SecondActs misfit)) old new status = new ≡ old
 IsOutputOf (Err Value) old new status = new ≡ old
 IsOutputOf (Err Io) old new status = new ≡ old
 IsOutputOf (Err Store) old new status = new ≡ old
@@ -67,6 +69,7 @@ IsToldOf (Err (Refused why)) old new = AppendsBeginning old new (told_line (Refu
 IsToldOf (Err (Audit fault)) old new = AppendsBeginning old new (told_line (Audit fault))
 IsToldOf (Err (Apply fault)) old new = AppendsBeginning old new (told_line (Apply fault))
 IsToldOf (Err Acts) old new = AppendsBeginning old new (told_line Acts)
+IsToldOf (Err (SecondActs misfit)) old new = AppendsBeginning old new (told_line (SecondActs misfit))
 IsToldOf (Err Value) old new = AppendsBeginning old new (told_line Value)
 IsToldOf (Err Io) old new = AppendsBeginning old new (told_line Io)
 IsToldOf (Err Store) old new = AppendsBeginning old new (told_line Store)

@@ -1,5 +1,5 @@
 ghost use Rattle.std.specs.Prelude.{◌≡◌, ◌≤◌, ◌+◌, ◌++◌, length};
-ghost use Rattle.command_line.specs.Applying.{apply_code, apply_place};
+ghost use Rattle.command_line.specs.Applying.{apply_code, apply_place, apply_after};
 
 use crate::fault::{Told, push_act};
 use commands::Refusal;
@@ -20,7 +20,8 @@ pub enum ApplyFault {
 impl ApplyFault {
     /// What is told of it first.
     pub(crate) fn code(&self) -> &'static str
-        ensures { result.now ≡ apply_code self.now }
+        ensures text { result.now ≡ apply_code self.now }
+        ensures size { length result.now ≤ 7 }
     {
         match self {
             ApplyFault::Differs { .. } => "differs",
@@ -32,9 +33,9 @@ impl ApplyFault {
 
     /// Adds what it is about: the act, or the line of the input.
     pub(crate) fn push_place(&self, told: &mut Told)
-        requires { length told.old ≤ 19 }
+        requires { length told.old ≤ 40 }
         ensures text { told.new ≡ told.old ++ apply_place self.now }
-        ensures size { length told.new ≤ length told.old + 67 }
+        ensures size { length told.new ≤ length told.old + 25 }
     {
         match self {
             ApplyFault::Differs { act } => push_act(*act, told),
@@ -45,5 +46,16 @@ impl ApplyFault {
             }
             ApplyFault::Act { act, refusal: _ } => push_act(*act, told),
         }
+    }
+
+    /// Adds all that is told of it, behind which file it is of.
+    pub(crate) fn push_after(&self, told: &mut Told)
+        requires { length told.old ≤ 19 }
+        ensures text { told.new ≡ told.old ++ apply_after self.now }
+        ensures size { length told.new ≤ length told.old + 67 }
+    {
+        told.push_all(b" ");
+        told.push_all(self.code().as_bytes());
+        self.push_place(told);
     }
 }

@@ -37,6 +37,8 @@ pub enum Fault {
     Apply(ApplyFault),
     /// The file of the acts cannot be opened, read, written or synced, or a server has it.
     Acts,
+    /// The second file of the acts cannot be either, or it does not fit the books.
+    SecondActs(Option<ApplyFault>),
     /// A date on the line is no business day, or a GTIN or a lot breaks its rule.
     Value,
     /// The port is taken, a file cannot be read, or the output or a line of the log could not be written.
@@ -76,6 +78,7 @@ impl Fault {
             Fault::Audit(fault) => fault.code(),
             Fault::Apply(fault) => fault.code(),
             Fault::Acts => "acts",
+            Fault::SecondActs(_) => "acts 2",
             Fault::Value => "value",
             Fault::Io => "io",
             Fault::Store => "store",
@@ -94,6 +97,7 @@ impl Fault {
             Fault::Row { row, refusal: _ } => push_row(*row, told),
             Fault::Audit(fault) => fault.push_place(told),
             Fault::Apply(fault) => fault.push_place(told),
+            Fault::SecondActs(Some(fault)) => fault.push_after(told),
             _ => {}
         }
     }
@@ -110,7 +114,7 @@ fn push_row(row: u16, told: &mut Told)
 
 /// Adds the number of an act.
 pub(crate) fn push_act(act: u64, told: &mut Told)
-    requires { length told.old ≤ 19 }
+    requires { length told.old ≤ 40 }
     ensures text { told.new ≡ told.old ++ act_place act }
     ensures size { length told.new ≤ length told.old + 25 }
 {

@@ -1,6 +1,7 @@
 //! The lines of the program `lotd`: its words, what each line asks for, and what is told.
 #![tactic(auto)]
 
+mod acts_names;
 mod apply_fault;
 mod audit_fault;
 mod fault;
@@ -10,6 +11,7 @@ mod running;
 mod version;
 mod words;
 
+pub use acts_names::ActsNames;
 pub use apply_fault::ApplyFault;
 pub use audit_fault::{AuditFault, ROW_KEY_MAX, TABLE_NAME_MAX};
 pub use fault::Fault;

@@ -8,6 +8,7 @@ ghost use Rattle.command_line.specs.Statuses.{IsStatusOf, IsStatusOfWords, IsOut
 ghost use Rattle.command_line.specs.Ends.{IsAudited, IsEndOf, IsEnded, IsOnDay, IsRun, IsWorked};
 ghost use Rattle.command_line.specs.declared.running.Work.TheVariants.{Make, Audit};
 
+use crate::acts_names::ActsNames;
 use crate::fault::Fault;
 use crate::label_line::{first_day, print_label};
 use crate::lot_lines::{print_card, print_notice};
@@ -38,18 +39,18 @@ pub enum Work<'a> {
     /// Makes them; they begin on the business day.
     Make(BusinessDay),
     /// Opens them, listens on the port and answers so many connections, and keeps a log or none. Each act is in the file of
-    /// the acts too, where one is named, before it is answered.
+    /// the acts too, where one is named, or in both, before it is answered.
     Serve {
         port: u16,
         max: u32,
         log: bool,
-        acts: Option<&'a str>,
+        acts: Option<ActsNames<'a>>,
     },
     /// Opens them, and then the goods-in file: takes its rows in, all or none, and prints how many were accepted and
-    /// how many repeated. Each act is in the file of the acts too, where one is named, before that is printed.
+    /// how many repeated. Each act is in the file of the acts too, where one is named, or in both, before that is printed.
     Import {
         file: &'a str,
-        acts: Option<&'a str>,
+        acts: Option<ActsNames<'a>>,
     },
     /// Opens them and prints the stock card of the lot.
     Card(LotId),

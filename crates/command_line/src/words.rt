@@ -6,8 +6,9 @@ ghost use Rattle.clap.specs.Simple.{App, app_of, new_rule, with_subcommand as ad
 ghost use Rattle.clap.specs.Walk.{rule_of};
 ghost use Rattle.clap.specs.declared.builder.command.Command.TheViews.{out-Command as fields_of};
 ghost use Rattle.command_line.specs.Program.{add_lines, add_values, bare_app, line_app, program_app, value_rule, text_rule, IsApp};
-ghost use Rattle.command_line.specs.Words.{IsNamed, IsLineOf, IsLineRead};
+ghost use Rattle.command_line.specs.Words.{AreNames, IsNamed, IsLineOf, IsLineRead};
 
+use crate::acts_names::ActsNames;
 use crate::version::VERSION;
 use clap::{Arg, ArgAction, ArgMatches, Command, Error, value_parser};
 use std::alloc::{AllocError, Global};
@@ -27,19 +28,19 @@ pub enum Line<'a> {
         day: &'a str,
     },
     /// `lotd serve --db PATH --port N --max M`: answers M connections to the port N of 127.0.0.1; with `--log` it logs the
-    /// requests, with `--acts FILE` it keeps each act in FILE too.
+    /// requests, with `--acts FILE` it keeps each act in FILE too, or in two files.
     Serve {
         db: &'a str,
         port: u16,
         max: u32,
         log: bool,
-        acts: Option<&'a str>,
+        acts: Option<ActsNames<'a>>,
     },
     /// `lotd import --db PATH FILE`: takes in the goods-in file FILE, all rows or none; `--acts` as `serve` has it.
     Import {
         db: &'a str,
         file: &'a str,
-        acts: Option<&'a str>,
+        acts: Option<ActsNames<'a>>,
     },
     /// `lotd card --db PATH GTIN LOT`: prints the stock card of the lot.
     Card {
@@ -80,6 +81,8 @@ enum Kind {
     Named,
     /// A text after `--` and its name, which may be left out.
     Optional,
+    /// The same, and it may stand several times.
+    Repeated,
     /// A port that takes no privilege, after `--` and its name.
     Port,
     /// How many connections are answered before the end, after `--` and its name.
@@ -108,8 +111,8 @@ struct Words {
 const ACTS: Value = Value {
     id: "acts",
     stands_for: "FILE",
-    help: "Keep each act in FILE too, before it is answered",
-    kind: Kind::Optional,
+    help: "Keep each act in FILE too, before it is answered; twice: in both",
+    kind: Kind::Repeated,
 };
 
 const AFTER_HELP: &str = "Examples:
@@ -125,14 +128,19 @@ const AFTER_HELP: &str = "Examples:
 
 Exit status: 0 where the line was done, 2 where the words are no line of the
 program, and else 1. Then standard error has `lotd: ` and one of these:
-  store          the file is not there; or a server has it open; or it is no
-                 database, or has a second name; or the user may not write it;
-                 or disk or memory did not suffice
-  foreign books  other tables than the books', or (init) there are tables
-  io             the port is taken, a file to take in cannot be read, or the
-                 output or a line of the log cannot be written
-  value          a day, a GTIN or a lot breaks its rule
-  U02 row 3, ..  what is asked is refused, by this code
+  store          PATH is not there (only init makes it), is no database, is a folder
+                 or has a second name; or the user may not write it, its folder or
+                 PATH-wal: ls -l PATH*. Or another lotd or sqlite3 has it open:
+                 fuser PATH. Or disk or memory did not suffice: df, free, dmesg
+  foreign books  init: there are tables at PATH already, which stay as they are; else
+                 PATH has other tables than the books': sqlite3 PATH .schema
+  io             serve: another program has the port: ss -ltnp. import, apply: FILE
+                 cannot be read: ls -l FILE. Or the output or a line of the log
+                 cannot be written
+  value          the day is none from 2000-01-01 to 2199-12-31, the GTIN has not 14
+                 digits or a wrong last one, the LOT has a space or over 20 bytes, or
+                 more than two FILEs are given by --acts
+  U02 row 3, ..  what is asked is refused, by this code; the README has the codes
 
 or, where an audit finds that the rows are not those of the acts, one of these:
   differs stock 09506000134352 AB12 A-01
@@ -147,6 +155,8 @@ or, where the acts in a file are taken in (the lines before the fault are) or
 kept (--acts), one of these:
   acts           the file of the acts cannot be opened, read, written or synced,
                  or a server has it
+  acts 2 ..      the same of the second file (--acts twice), or behind it why it
+                 does not fit the books: acts 2 differs act 17
   differs act 17 the books have another act 17
   lacks act 17   the books have no act 17: the line is of a later one, or the
                  file of the acts is ahead of the books (apply it first)
@@ -184,11 +194,13 @@ static LINES: [Words; 9] = [
         examples: "Examples:
   lotd serve --db stock.db --port 8080 --max 1000
   lotd serve --db stock.db --port 8080 --max 1000 --acts /mnt/acts/stock.acts
+  lotd serve --db stock.db --port 8080 --max 1000 --acts /mnt/acts/stock.acts \\
+      --acts /mnt/standby/stock.acts
 
 With --acts the line of each act, as `lotd history` prints it, is in FILE and synced
 before the act is answered. FILE is made where it is not there, and gets the lines
 that it lacks at the start. Where it cannot be written the act is done and not
-answered, and the server ends.",
+answered, and the server ends. With --acts twice this holds of each of two files.",
         values: &[
             Value {
                 id: "db",
@@ -450,13 +462,13 @@ fn serve_line<'a>(found: &ArgMatches<'a>) -> Line<'a>
     ensures { IsNamed (codes "serve") (found_of found.now) result }
 {
     let (port, max) = (found.get_one::<u16>("port"), found.get_one::<u32>("max"));
-    match (found.get_str("db"), port, max) {
-        (Some(db), Some(port), Some(max)) => Line::Serve {
+    match (found.get_str("db"), port, max, acts_named(found)) {
+        (Some(db), Some(port), Some(max), Ok(acts)) => Line::Serve {
             db,
             port,
             max,
             log: found.get_flag("log"),
-            acts: found.get_str("acts"),
+            acts,
         },
         _ => Line::Unknown,
     }
@@ -465,13 +477,35 @@ fn serve_line<'a>(found: &ArgMatches<'a>) -> Line<'a>
 fn import_line<'a>(found: &ArgMatches<'a>) -> Line<'a>
     ensures { IsNamed (codes "import") (found_of found.now) result }
 {
-    match (found.get_str("db"), found.get_str("file")) {
-        (Some(db), Some(file)) => Line::Import {
-            db,
-            file,
-            acts: found.get_str("acts"),
-        },
+    match (
+        found.get_str("db"),
+        found.get_str("file"),
+        acts_named(found),
+    ) {
+        (Some(db), Some(file), Ok(acts)) => Line::Import { db, file, acts },
         _ => Line::Unknown,
+    }
+}
+
+/// More files of the acts than a line can have.
+#[derive(Drop)]
+struct TooMany;
+
+/// The files of the acts that a line names.
+fn acts_named<'a>(found: &ArgMatches<'a>) -> Result<Option<ActsNames<'a>>, TooMany>
+    ensures { IfOk result (AreNames (found_of found.now)) }
+{
+    match found.get_strs("acts") {
+        None => Ok(None),
+        Some([first]) => Ok(Some(ActsNames {
+            first: *first,
+            second: None,
+        })),
+        Some([first, second]) => Ok(Some(ActsNames {
+            first: *first,
+            second: Some(*second),
+        })),
+        Some(_) => Err(TooMany),
     }
 }
 
@@ -612,6 +646,10 @@ fn of_kind<'a>(arg: Arg<'a>, value: &'static Value) -> Arg<'a>
         Kind::Bare => with_value(arg, value),
         Kind::Named => with_value(arg, value).long(value.id),
         Kind::Optional => with_value(arg, value).long(value.id).required(false),
+        Kind::Repeated => with_value(arg, value)
+            .long(value.id)
+            .required(false)
+            .action(ArgAction::Append),
         Kind::Port => with_value(arg, value)
             .long(value.id)
             .value_parser(value_parser!(u16).range(1024..=65535)),

@@ -8,7 +8,7 @@ use book_trials::{
 use books_schema::ready_connection::{Leftover, Orderly};
 use command_line::{Fault, FilesAt, Work as LineWork, tell};
 use house::House;
-use line_work::{do_work, listen};
+use line_work::{ActsDisks, do_work, listen};
 use sqlite::types::ValueRef;
 use sqlite::{Alter, Connection, Options};
 use std::alloc::Global;
@@ -209,7 +209,7 @@ fn line_done<S: Orderly + Drop>(
         _ => Receiver::failing(alloc, room),
     };
     let mut log: Vec<u8> = Vec::new(alloc);
-    let mut acts: Option<Stopping> = None;
+    let mut acts: Option<ActsDisks<Stopping, Stopping>> = None;
     let listener = listen(host, work).expect(rt, "a listener");
     match do_work(
         host,

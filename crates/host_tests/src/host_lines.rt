@@ -195,6 +195,7 @@ fn line_status<S: Start, W: Write, L: Write>(
         rt: host,
         start,
         acts: Unknown,
+        second: Unknown,
     };
     let (_left, status) = run(host.alloc(), books, words, out, err);
     status

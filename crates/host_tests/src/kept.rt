@@ -1,4 +1,4 @@
-//! Lines that keep the acts in a second file: its disk stops at each call, or it is that of other books.
+//! Lines that keep the acts in a file beside the books: its disk stops at each call, or it is that of other books.
 
 use crate::cut::history;
 use crate::deeds::{Deed, Heard, at, books_after, done};
@@ -12,7 +12,7 @@ use std::process::Abort;
 
 /// A line that keeps the acts.
 #[derive(Clone, Copy)]
-enum Keeping {
+pub(crate) enum Keeping {
     /// It serves two clients, each of whom has a bin made.
     Serve,
     /// It imports a file of one row.
@@ -28,18 +28,18 @@ static SERVED: &str =
     "1\t2026-05-04\tK/K-1\tBIN\tA-01\tSTORE\n2\t2026-05-04\tK/K-3\tBIN\tA-03\tSTORE\n";
 
 // Those of two items and three bins, and of the file's row.
-static IMPORTED: &str =
+pub(crate) static IMPORTED: &str =
     "1\t2026-05-04\tK/K-1\tITEM\t09506000134352\tOat drink\n2\t2026-05-04\tK/K-2\tITEM\t04012345000016\tRye bread\n3\t2026-05-04\tK/K-3\tBIN\tA-01\tSTORE\n4\t2026-05-04\tK/K-4\tBIN\tA-02\tSTORE\n5\t2026-05-04\tK/K-5\tBIN\tQ-01\tHOLD\n6\t2026-05-04\tD/D-9/1\tRECEIVE\t09506000134352\tM1\t2026-11-30\tA-01\t5\n";
 
 /// How many acts there are before the import.
 const GOODS: usize = 5;
 
 /// Where in what is heard the line begins, and the history behind it: a history is heard before it.
-const LINE: usize = 2;
+pub(crate) const LINE: usize = 2;
 
 impl Keeping {
     /// The lines of all acts.
-    fn lines(self) -> &'static [u8] {
+    pub(crate) fn lines(self) -> &'static [u8] {
         match self {
             Keeping::Serve => SERVED.as_bytes(),
             Keeping::Import => IMPORTED.as_bytes(),
@@ -47,7 +47,7 @@ impl Keeping {
     }
 
     /// The books as they are before the line.
-    fn books(self, host: &HostRuntime, rt: &impl Abort) -> Pair {
+    pub(crate) fn books(self, host: &HostRuntime, rt: &impl Abort) -> Pair {
         match self {
             Keeping::Serve => books_after(host, rt, ""),
             Keeping::Import => books_after(host, rt, History::GoodsAndBins.text()),
@@ -55,7 +55,7 @@ impl Keeping {
     }
 
     /// The line, beside the file, whose disk takes so many calls.
-    fn beside(self, file: &Stored, calls: u64) -> Serving<'_> {
+    pub(crate) fn beside(self, file: &Stored, calls: u64) -> Serving<'_> {
         let acts = Some((file, calls));
         match self {
             Keeping::Serve => Serving {
@@ -74,17 +74,17 @@ impl Keeping {
     }
 }
 
-fn count(text: &[u8]) -> usize {
+pub(crate) fn count(text: &[u8]) -> usize {
     text.iter().filter(|byte| **byte == b'\n').count()
 }
 
-fn stored(host: &HostRuntime, rt: &impl Abort, bytes: &[u8]) -> Stored {
+pub(crate) fn stored(host: &HostRuntime, rt: &impl Abort, bytes: &[u8]) -> Stored {
     let bytes = bytes.to_vec(host.alloc()).ok().expect(rt, "memory");
     Stored::holding(host.alloc(), bytes).expect(rt, "memory")
 }
 
 // The files after the line, and what is heard of it, with the history before it and after it.
-fn heard_around(
+pub(crate) fn heard_around(
     host: &HostRuntime,
     rt: &impl Abort,
     files: &Pair,
@@ -123,7 +123,7 @@ fn answered(rt: &impl Abort, keeping: Keeping, heard: &Heard) -> usize {
 }
 
 // The lines of the acts at the end.
-fn history_after<'a>(rt: &impl Abort, heard: &'a Heard) -> &'a [u8] {
+pub(crate) fn history_after<'a>(rt: &impl Abort, heard: &'a Heard) -> &'a [u8] {
     at(rt, heard, heard.len().saturating_sub(2))
 }
 

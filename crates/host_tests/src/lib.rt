@@ -28,3 +28,5 @@ mod serving;
 mod sizes;
 #[cfg(test)]
 mod statements;
+#[cfg(test)]
+mod two_files;

@@ -8,7 +8,7 @@ use book_trials::{Exchange, Stopping, closed, first_day, new_books, opened_books
 use books_schema::ready_connection::{Leftover, Orderly};
 use command_line::{Fault as LineFault, Work as LineWork};
 use house::{Answered, House};
-use line_work::do_work;
+use line_work::{ActsDisks, do_work};
 use refused_calls::{Call, Told, is_refused};
 use service::{AfterWork, NotBegun};
 use sqlite::{Alter, Connection, MemStore};
@@ -435,7 +435,7 @@ fn take_in<S: Orderly + Drop>(
     printed: &mut Vec<u8>,
 ) -> Result<AfterWork<S>, NotBegun<S>> {
     let mut log: Vec<u8> = Vec::new(host.alloc());
-    let mut acts: Option<Stopping> = None;
+    let mut acts: Option<ActsDisks<Stopping, Stopping>> = None;
     let input = Input {
         text: text.as_bytes(),
         ends: true,

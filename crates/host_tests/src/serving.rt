@@ -3,9 +3,9 @@
 use crate::deeds::{Deed, Heard, Input, at, hear, heard_of, is_heard, told_of};
 use book_trials::{Stopping, Stored, free_port, opened_books};
 use books_schema::ready_connection::Orderly;
-use command_line::Work as LineWork;
+use command_line::{ActsNames, Work as LineWork};
 use house::House;
-use line_work::{do_work, listen};
+use line_work::{ActsDisks, do_work, listen};
 use service::serve_on;
 use sqlite::Connection;
 use std::alloc::Global;
@@ -44,8 +44,10 @@ pub(crate) struct Serving<'a> {
     pub(crate) max: u32,
     /// How many bytes the log takes, where there is one.
     pub(crate) log: Option<usize>,
-    /// The second file, and after how many calls its disk stops.
+    /// The file of the acts, and after how many calls its disk stops.
     pub(crate) acts: Option<(&'a Stored, u64)>,
+    /// A second one beside it, likewise.
+    pub(crate) second: Option<(&'a Stored, u64)>,
 }
 
 /// A server without a second file.
@@ -58,6 +60,7 @@ pub(crate) const SERVER: Serving<'static> = Serving {
     max: 1,
     log: None,
     acts: None,
+    second: None,
 };
 
 /// Where in what is heard of them: what is printed, told and logged; what the second file has, and had at its last sync; and
@@ -187,7 +190,10 @@ fn waiting(
 }
 
 fn work_of<'a>(serving: &Serving<'a>, port: u16) -> LineWork<'a> {
-    let acts = serving.acts.map(|_| "stock.acts");
+    let acts = serving.acts.map(|_| ActsNames {
+        first: "stock.acts",
+        second: serving.second.map(|_| "far.acts"),
+    });
     match serving.file {
         Some(_) => LineWork::Import {
             file: "goods.csv",
@@ -242,10 +248,7 @@ pub(crate) fn served<S: Orderly + Drop>(
     let crowd = Cell::new(Some(crowd_of(host, port, serving)));
     let mut out = open_door(alloc, &crowd, usize::MAX);
     let mut log = open_door(alloc, &crowd, serving.log.unwrap_or(0));
-    let mut acts = match serving.acts {
-        Some((file, calls)) => file.disk(alloc, calls),
-        None => None,
-    };
+    let mut acts = acts_disks(alloc, serving);
     let input = Input {
         text: serving.file.unwrap_or("").as_bytes(),
         ends: true,
@@ -283,14 +286,41 @@ pub(crate) fn served<S: Orderly + Drop>(
     conn
 }
 
+// The disks of the files of the acts, where there are some.
+fn acts_disks(alloc: Global, serving: &Serving<'_>) -> Option<ActsDisks<Stopping, Stopping>> {
+    let (file, calls) = serving.acts?;
+    let first = file.disk(alloc, calls)?;
+    let second = match serving.second {
+        Some((file, calls)) => file.disk(alloc, calls),
+        None => None,
+    };
+    Some(ActsDisks { first, second })
+}
+
 fn heard_of_line(rt: &impl Abort, alloc: Global, heard: &mut Heard, texts: &[&[u8]]) {
     for text in texts {
         hear(rt, alloc, heard, text);
     }
 }
 
-fn heard_of_acts(rt: &impl Abort, alloc: Global, heard: &mut Heard, acts: Option<Stopping>) {
-    let Some(disk) = acts else {
+fn heard_of_acts(
+    rt: &impl Abort,
+    alloc: Global,
+    heard: &mut Heard,
+    acts: Option<ActsDisks<Stopping, Stopping>>,
+) {
+    let Some(ActsDisks { first, second }) = acts else {
+        heard_of_file(rt, alloc, heard, None);
+        return;
+    };
+    heard_of_file(rt, alloc, heard, Some(first));
+    if second.is_some() {
+        heard_of_file(rt, alloc, heard, second);
+    }
+}
+
+fn heard_of_file(rt: &impl Abort, alloc: Global, heard: &mut Heard, disk: Option<Stopping>) {
+    let Some(disk) = disk else {
         hear(rt, alloc, heard, b"");
         hear(rt, alloc, heard, b"");
         return;

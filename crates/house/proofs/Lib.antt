@@ -13,4 +13,5 @@ pub mod LotShown
 pub mod Unanswered
 pub mod Adding
 mod Kept
+mod BothKept
 mod OkStatus

@@ -12,7 +12,8 @@ pub use Rattle.std.proofs.lemmas.List.Elements.{All-weaker, Contains-append_left
 pub use Rattle.std.proofs.lemmas.Result.{err_from_is_err_and}
 pub use Rattle.std.proofs.lemmas.Slice.Eq.{slice_eq-Decides}
 pub use Rattle.sqlite.specs.Held.{state}
-pub use Rattle.sqlite.specs.State.{Survives, State}
+pub use Rattle.sqlite.specs.State.{Survives, State, HasCleanDisk}
+pub use Rattle.sqlite.proofs.StateLemmas.{survives_then}
 pub use Rattle.sqlite_trees.specs.Tree.{Trees}
 pub use Rattle.sqlite_trees.specs.declared.store.Store.{Ghosts}
 pub use Rattle.values.specs.declared.fault.LabelFault.{LabelFault}
@@ -111,7 +112,8 @@ pub use Rattle.house.specs.Asking.{told_answer, IsDone, IsUndone, scanned_answer
 pub use Rattle.house.specs.Asking.{whole_asked}
 pub use Rattle.queries.specs.Traced.{whole}
 pub use Rattle.house.specs.House.{Step, Run, IsInPlace, bytes_of, Answers, LeavesBooks, StepsTo, RunsTo, texts_of, IsOneFurther, IsLongIfOk, IsAskedInPlace, books_of}
-pub use Rattle.house.specs.Keeping.{TellsNoAct, NoHistory, IsKeptIfTold}
+pub use Rattle.house.specs.Keeping.{TellsNoAct, NoHistory, IsKeptIfTold, second_kept}
+pub use Rattle.house.specs.declared.keeping.KeepFault.{KeepFault}
 pub use Rattle.house.specs.Laws.{RefusedRequestsChangeNothing, BooksAreNeverForeign}
 pub use Rattle.house.specs.LotTexts.{Stays, Tells, text_answer, card_from, Puts, shown_text, stopped_at}
 pub use Rattle.house.specs.Serving.{IsWhole, HasLine, IsLogged, sent_of}

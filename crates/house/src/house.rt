@@ -1,6 +1,6 @@
 //! The house: books, and the answers to texts.
 
-ghost use Rattle.std.specs.Prelude.{◌≡◌, ◌≢◌, ◌++◌, ℕ, ℤ, List, All, map, codes, IfOk, OnOk, OnErr, IsTrue};
+ghost use Rattle.std.specs.Prelude.{◌≡◌, ◌≢◌, ◌++◌, ℕ, ℤ, List, All, map, codes, IfOk, OnOk, OnErr};
 ghost use Rattle.sqlite.specs.Held.{state};
 ghost use Rattle.sqlite.specs.State.{Survives};
 ghost use Rattle.machine.specs.Acts.{Act};
@@ -123,15 +123,14 @@ impl<S: Alter> House<S> {
         ensures as_before { IsClean S.Store (books_of self.new) → AreAsBefore S.Store (books_of self.old) (books_of self.new) }
         ensures same { status_of (bytes_of answer.now) ≢ codes "HTTP/1.1 200" → books_of self.new ≡ books_of self.old }
         ensures survives { Survives (state S.Store (books_of self.old).conn) (state S.Store (books_of self.new).conn) (NoHistory S.Store (books_of self.old)) }
-        ensures kept { IsClean S.Store (books_of self.new) → (first begun : ℤ) (newer older : List Act) → IsHistory first (newer ++ older) → HoldsBooks S.Store first (newer ++ older) (books_of self.old)
+        ensures kept { IsClean S.Store (books_of self.new) → (first : ℤ) (begun : K.days) (newer older : List Act) → IsHistory first (newer ++ older) → HoldsBooks S.Store first (newer ++ older) (books_of self.old)
             → (TellsNoAct answer.now → newer ++ older ≡ older) → K.keeps keeper.old begun older → OnOk result (K.keeps keeper.new begun (newer ++ older)) }
-        ensures leaves { IsClean S.Store (books_of self.new) → (first begun : ℤ) (newer older : List Act) → IsHistory first (newer ++ older) → HoldsBooks S.Store first (newer ++ older) (books_of self.old)
+        ensures leaves { IsClean S.Store (books_of self.new) → (first : ℤ) (begun : K.days) (newer older : List Act) → IsHistory first (newer ++ older) → HoldsBooks S.Store first (newer ++ older) (books_of self.old)
             → K.keeps keeper.old begun older → OnErr result (K.leaves keeper.new begun older (newer ++ older)) }
         ensures asked { status_of (bytes_of answer.now) ≢ codes "HTTP/1.1 200" → OnErr result ⊥ }
         ensures fails { OnErr result K.may_fail }
-        ensures begins { OnErr result ((begun : ℤ) (acts : List Act) → K.keeps keeper.old begun acts → K.begins keeper.new begun acts) }
-        ensures loses { (text : List ℕ) → K.has_text keeper.old text → K.has_text keeper.new text }
-        ensures calm { IsTrue (K.is_clean keeper.new) → IsTrue (K.is_clean keeper.old) }
+        ensures begins { OnErr result ((begun : K.days) (acts : List Act) → K.keeps keeper.old begun acts → K.begins keeper.new begun acts) }
+        ensures loses { (text : K.texts) → K.has_text keeper.old text → K.has_text keeper.new text }
     {
         if answer.may_tell_of_acts() {
             keeper.bring_up(self.alloc, &mut self.books)

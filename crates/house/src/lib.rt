@@ -13,7 +13,7 @@ mod showing;
 
 pub use answered::Answered;
 pub use house::House;
-pub use keeping::{KeepFault, Keeper, NoKeeper};
+pub use keeping::{Both, KeepFault, Keeper, NoKeeper};
 pub use lot_texts::{write_card, write_notice};
 pub use serve::Served;
 pub use wire::ServeFault;

@@ -103,13 +103,12 @@ impl<S: Alter> House<S> {
         ensures unchanged { IsClean S.Store (books_of self.new) → result.is_ok ≡ false → AreAsBefore S.Store (books_of self.old) (books_of self.new) }
         ensures unread { result.answered ≡ Err ServeFault.Read → (books_of self.new ≡ books_of self.old) × (writer.new ≡ writer.old) × (log.new ≡ log.old) × (keeper.new ≡ keeper.old) × (result.logged ≡ Ok tt) × (result.kept ≡ Ok tt) }
         ensures kept { IsClean S.Store (books_of self.new)
-            → (first begun : ℤ) (acts : List Act) → IsHistory first acts → HoldsBooks S.Store first acts (books_of self.old) → K.keeps keeper.old begun acts
+            → (first : ℤ) (begun : K.days) (acts : List Act) → IsHistory first acts → HoldsBooks S.Store first acts (books_of self.old) → K.keeps keeper.old begun acts
             → IsKeptIfTold S.Store first (K.keeps keeper.new begun) (books_of self.new) (writer.new ≡ writer.old) }
         ensures untold { OnErr result.kept (writer.new ≡ writer.old) }
         ensures fails { OnErr result.kept K.may_fail }
-        ensures begins { OnErr result.kept ((begun : ℤ) (acts : List Act) → K.keeps keeper.old begun acts → K.begins keeper.new begun acts) }
-        ensures loses { (text : List ℕ) → K.has_text keeper.old text → K.has_text keeper.new text }
-        ensures calm { IsTrue (K.is_clean keeper.new) → IsTrue (K.is_clean keeper.old) }
+        ensures begins { OnErr result.kept ((begun : K.days) (acts : List Act) → K.keeps keeper.old begun acts → K.begins keeper.new begun acts) }
+        ensures loses { (text : K.texts) → K.has_text keeper.old text → K.has_text keeper.new text }
     {
         match read_whole(self.alloc, &mut self.routes, reader) {
             Ok(heard) => {

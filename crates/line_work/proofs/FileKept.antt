@@ -23,6 +23,40 @@ module _ {D : Type 0} (g : Ghosts D) (begun : ℤ) where
     },
   )
 
+  -- where they are kept and go on from older ones, they were added to these
+  pub all_then_leaves : (disk : D) (before after : List Act) → AreOldest before after → HasActs g disk begun after → LeavesActs g disk begun before after
+  all_then_leaves disk before after more has = (
+    more.0,
+    more.1,
+    record {
+      added = more.0;
+      later = [];
+      parts = refl;
+      next = [];
+      beyond = [];
+      split = refl;
+      few = omega arith;
+      left = λ clean c left. ([], (has clean).1.left c left ∙ ap (history_text begun) more.1 ∙ sym (append-nil (history_text begun (more.0 ++ before))), omega arith);
+    },
+  )
+
+  -- where the older ones are, none was added
+  pub old_then_leaves : (disk : D) (before after : List Act) → AreOldest before after → HasActs g disk begun before → LeavesActs g disk begun before after
+  old_then_leaves disk before after more has = (
+    more.0,
+    more.1,
+    record {
+      added = [];
+      later = more.0;
+      parts = sym (append-nil more.0);
+      next = [];
+      beyond = more.0;
+      split = sym (append-nil more.0);
+      few = omega arith;
+      left = λ clean c left. ([], (has clean).1.left c left ∙ sym (append-nil (history_text begun before)), omega arith);
+    },
+  )
+
 -- older acts of older acts are older
 pub oldest_then : (old mid new : List Act) → AreOldest old mid → AreOldest mid new → AreOldest old new
 oldest_then old mid new one two = (two.0 ++ one.0, two.1 ∙ ap (λ l. two.0 ++ l) one.1 ∙ sym (append_assoc two.0 one.0 old))

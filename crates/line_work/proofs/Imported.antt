@@ -3,6 +3,13 @@ use Rattle.line_work.proofs.Words.{◌≡◌, ◌⊎◌, ℕ, List, [], refl, sy
 use Rattle.line_work.specs.Importing.{KeepsMore}
 use Rattle.line_work.proofs.FileKept.{has_acts, has_then_leaves, stop_leaves}
 
+-- what a stop leaves of the books goes on from the acts before the file
+pub further : {S : Type 0} (s : StoreGhosts S) (first : ℤ) (acts : List Act) (from : Option (List ℕ)) (trees : Trees) → IsHistory first acts
+    → AreBooks first acts trees ⊎ ((rows : List (Key × Command)) × AreRead s first acts from rows × IsHistory first (acts_after_file first acts (rows_of rows)) × AreBooks first (acts_after_file first acts (rows_of rows)) trees)
+    → (all : List Act) × IsHistory first all × AreBooks first all trees × AreOldest acts all
+further s first acts from trees history (inl same) = (acts, history, same, ([], refl))
+further s first acts from trees history (inr some) = (acts_after_file first acts (rows_of some.0), some.2, some.3, file_adds first acts some.0)
+
 module _ {S D : Type 0} (s : StoreGhosts S) (g : Ghosts D) (first begun : ℤ) (acts : List Act) (from : Option (List ℕ)) (end : Result Unit Fault) (books : Connected S) (old new : Option (List ℕ)) (kept : KeptActs D) where
   abbrev Imported : Type 0
   Imported = IsImported s first acts from (keeps_acts g kept begun) (leaves_acts g kept begun acts) (Unit {0}) end books old new
@@ -18,11 +25,6 @@ module _ {S D : Type 0} (s : StoreGhosts S) (g : Ghosts D) (first begun : ℤ) (
   on_disk (inl t) = inl (t.0, t.1, tally_on_disk (acts_after_file first acts (rows_of t.1.rows)) t.0 t.2)
   on_disk (inr u) = inr (u.0, u.1, has_acts g begun acts kept.file u.2)
 
-  further : (trees : Trees) → IsHistory first acts → AreBooks first acts trees ⊎ ((rows : List (Key × Command)) × AreRead s first acts from rows × IsHistory first (acts_after_file first acts (rows_of rows)) × AreBooks first (acts_after_file first acts (rows_of rows)) trees)
-      → (all : List Act) × IsHistory first all × AreBooks first all trees × AreOldest acts all
-  further trees history (inl same) = (acts, history, same, ([], refl))
-  further trees history (inr some) = (acts_after_file first acts (rows_of some.0), some.2, some.3, file_adds first acts some.0)
-
   stops_taken : (tally : Tally) (t : IsTaken s first acts from (Unit {0}) tally books) (h : Tallied (acts_after_file first acts (rows_of t.rows)) tally)
       → StopLeaves s g first begun (kept_of (acts_after_file first acts (rows_of t.rows)) acts (tally_on_disk (acts_after_file first acts (rows_of t.rows)) tally h)) books.conn kept.file.disk
   stops_taken tally t (inl h) =
@@ -35,7 +37,7 @@ module _ {S D : Type 0} (s : StoreGhosts S) (g : Ghosts D) (first begun : ℤ) (
   stops : IsHistory first acts → (h : Imported) → StopLeaves s g first begun (import_keeps s g first acts begun from end books old new kept.file.disk (on_disk h)) books.conn kept.file.disk
   stops history (inl t) = stops_taken t.0 t.1 t.2
   stops history (inr u) =
-      stop_leaves s g first begun books.conn kept.file.disk acts acts (has_then_leaves g begun kept.file.disk acts (has_acts g begun acts kept.file u.2)) (λ trees left. further trees history (u.0.leaves trees left))
+      stop_leaves s g first begun books.conn kept.file.disk acts acts (has_then_leaves g begun kept.file.disk acts (has_acts g begun acts kept.file u.2)) (λ trees left. further s first acts from trees history (u.0.leaves trees left))
 
   -- the books were closed, and the file given back
   pub import_done : (conn : Held S) (disk : D) → conn ≡ books.conn → disk ≡ kept.file.disk → IsHistory first acts → Imported → IsImportDone s g first acts begun from conn end old new disk

@@ -8,5 +8,6 @@ mod Opened
 mod FileKept
 mod Served
 mod Imported
+mod BothKept
 pub mod Losing
 pub mod NotBegun

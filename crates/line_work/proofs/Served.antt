@@ -4,7 +4,7 @@ use Rattle.line_work.specs.Serving.{kept_of}
 use Rattle.line_work.proofs.FileKept.{has_acts, has_then_leaves, oldest_then, stop_leaves}
 
 -- what a stop leaves of the books goes on from older acts
-further : (first : ℤ) (older after : List Act) (told : List (List ℕ × List ℕ)) (trees : Trees) → IsHistory first after → AreOldest older after → AreBooks first after trees ⊎ IsOneFurther first after told trees
+pub further : (first : ℤ) (older after : List Act) (told : List (List ℕ × List ℕ)) (trees : Trees) → IsHistory first after → AreOldest older after → AreBooks first after trees ⊎ IsOneFurther first after told trees
     → (kept : List Act) × IsHistory first kept × AreBooks first kept trees × AreOldest older kept
 further first older after told trees history oldest (inl books) = (after, history, books, oldest)
 further first older after told trees history oldest (inr one) =
@@ -30,7 +30,7 @@ module _ {S D : Type 0} (s : StoreGhosts S) (g : Ghosts D) (first : ℤ) (acts :
   }
 
   stops : (stopped : Result Unit Stopped) (texts answers : List (List ℕ)) (after : List Act) (told : List (List ℕ × List ℕ)) (conn : Held S) (disk : D) → IsHistory first after → LeavesBooks first after told (state s conn)
-      → (kept : AreKept s (HasActs g) (LeavesActs g) first acts stopped begun texts answers after disk) → StopLeaves s g first begun (kept_of s g first acts begun stopped texts answers after disk kept) conn disk
+      → (kept : AreKept s (HasActs g) (LeavesActs g) first acts stopped begun texts answers after disk) → StopLeaves s g first begun (kept_of s (HasActs g) (LeavesActs g) first acts begun stopped texts answers after disk kept) conn disk
   stops (Ok done) texts answers after told conn disk history leaves h =
       stop_leaves s g first begun conn disk after after (has_then_leaves g begun disk after h) (λ trees left. further first after after told trees history ([], refl) (leaves trees left))
   stops (Err Log) texts answers after told conn disk history leaves h =

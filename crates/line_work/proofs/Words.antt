@@ -36,8 +36,8 @@ pub use Rattle.histories.specs.Text.{history_text, history_line}
 pub use Rattle.histories.proofs.Acts.{earlier}
 pub use Rattle.acts_files.specs.Faults.{IsNoMisfit}
 pub use Rattle.acts_files.specs.Kept.{LosesNoLine, IsSameFile}
-pub use Rattle.acts_files.specs.KeptActs.{KeepsActs, AreOldest}
-pub use Rattle.acts_files.specs.Opened.{IsOwn, IsOpened, IsNotOpened, LeavesOldest, IsTail, IsNotOpenedBy}
+pub use Rattle.acts_files.specs.KeptActs.{KeepsActs, AreOldest, HoldsText}
+pub use Rattle.acts_files.specs.Opened.{IsOwn, IsOpened, IsNotOpened, LeavesOldest, IsTail, IsNotOpenedBy, KeepsLines}
 pub use Rattle.acts_files.specs.Torn.{IsLeftOf}
 pub use Rattle.acts_files.specs.declared.acts_file.ActsFile.{ActsFile}
 pub use Rattle.acts_files.specs.declared.fault.ActsFault.{ActsFault}
@@ -58,6 +58,7 @@ pub use Rattle.applies.proofs.Fronts.{act_is_line}
 pub use Rattle.applies.proofs.LineLengths.{line_length}
 pub use Rattle.audits.specs.Auditing.{IsLeftAlone, AreNotRaised}
 pub use Rattle.house.specs.House.{IsOneFurther, LeavesBooks}
+pub use Rattle.house.specs.declared.keeping.Both.{Both}
 pub use Rattle.house.proofs.Adding.{step_adds}
 pub use Rattle.house.proofs.Stepping.{leaves_none}
 pub use Rattle.command_line.specs.declared.fault.Fault.{Fault}
@@ -75,11 +76,13 @@ pub use Rattle.service.proofs.Serving.{logged_as, io_alone}
 pub use Rattle.line_work.specs.Applying.{fault_of, told_of, IsEndTold, Went, IsUnread, IsTakenIn, IsTextApplied, IsFileApplied, KeepsMore}
 pub use Rattle.line_work.specs.Auditing.{IsUnaudited}
 pub use Rattle.line_work.specs.Beside.{FitsFile, IsOpenedBeside, IsNotOpenedBeside, IsRefusedBeside, IsOwnBeside}
-pub use Rattle.line_work.specs.Faults.{fault_of_acts}
+pub use Rattle.line_work.specs.Faults.{fault_of_acts, fault_of_second}
 pub use Rattle.line_work.specs.Importing.{IsImportEnd, IsImportDone, kept_of, import_keeps}
-pub use Rattle.line_work.specs.Kept.{HasActs, LeavesActs, StopLeaves, keeps_acts, leaves_acts}
+pub use Rattle.line_work.specs.Kept.{HasActs, LeavesActs, HaveActs, LeaveActs, StopLeaves, keeps_acts, leaves_acts, has_text}
+pub use Rattle.line_work.specs.Both.{IsDoneWith, LoseNoLine, AreOpened, IsOneNotOpened, IsOneRefused, AreServedBeside, IsServeEndBoth, IsServeEndBy, IsServeEndOf, AreImportDone, IsImportEndBoth, IsImportEndBy, IsImportEndOf}
 pub use Rattle.line_work.specs.Lines.{IsImportedWith, IsServedWith, LosesNoLineIf, OverBooks, IsImportToldIf, KeepsImported, IsPortToldIf}
 pub use Rattle.line_work.specs.Rows.{shown_byte}
 pub use Rattle.line_work.specs.Serving.{IsServeEnd, IsServedBeside}
 pub use Rattle.line_work.specs.Works.{IsNotBegun, IsWorked, IsTold, IsKeptBeside, IsJudged, is_logged}
+pub use Rattle.line_work.specs.declared.disks.ActsDisks.{ActsDisks}
 pub use Rattle.line_work.specs.declared.kept_acts.KeptActs.{KeptActs}

@@ -1,5 +1,6 @@
 -- Why the acts are not kept, as a line tells it.
-use Rattle.line_work.specs.Words.{ActsFault, Fault, Apply, Acts, Foreign, Store}
+use Rattle.std.specs.Prelude.{Some, None}
+use Rattle.line_work.specs.Words.{ActsFault, Fault, Apply, Acts, SecondActs, Foreign, Store}
 use Rattle.acts_files.specs.declared.fault.ActsFault.TheVariants as acts
 use Rattle.command_line.specs.declared.apply_fault.ApplyFault.TheVariants as apply
 use Rattle.house.specs.declared.keeping.KeepFault.{KeepFault}
@@ -12,6 +13,14 @@ fault_of_acts acts.Store = Store
 fault_of_acts acts.Foreign = Foreign
 fault_of_acts (acts.Differs act) = Apply (apply.Differs act)
 fault_of_acts (acts.Lacks act) = Apply (apply.Lacks act)
+
+-- that of the second of two files
+abbrev pub fault_of_second : ActsFault → Fault
+fault_of_second acts.File = SecondActs None
+fault_of_second acts.Store = Store
+fault_of_second acts.Foreign = Foreign
+fault_of_second (acts.Differs act) = SecondActs (Some (apply.Differs act))
+fault_of_second (acts.Lacks act) = SecondActs (Some (apply.Lacks act))
 
 -- the same, while acts are kept one after another
 abbrev pub keep_fault : ActsFault → KeepFault

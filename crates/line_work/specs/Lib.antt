@@ -7,5 +7,6 @@ pub mod Kept
 pub mod Beside
 pub mod Serving
 pub mod Importing
+pub mod Both
 pub mod Lines
 pub mod Works

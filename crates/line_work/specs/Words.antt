@@ -16,7 +16,7 @@ pub use Rattle.acts_files.specs.KeptActs.{AreOldest, KeepsActs, BeginsWithActs, 
 pub use Rattle.acts_files.specs.declared.acts_file.ActsFile.{ActsFile}
 pub use Rattle.acts_files.specs.declared.fault.ActsFault.{ActsFault}
 pub use Rattle.command_line.specs.declared.fault.Fault.{Fault}
-pub use Rattle.command_line.specs.declared.fault.Fault.TheVariants.{Apply, Io, Store, Foreign, Audit, Acts}
+pub use Rattle.command_line.specs.declared.fault.Fault.TheVariants.{Apply, Io, Store, Foreign, Audit, Acts, SecondActs}
 pub use Rattle.service.specs.Failing.{IsOfBooks, IsCleanBefore, IsUnmade, IsUnopened}
 pub use Rattle.service.specs.Importing.{IsImported, KeepsFile}
 pub use Rattle.service.specs.Serving.{told_port, KeepsLogged, sent_by}

@@ -8,6 +8,7 @@ use Rattle.command_line.specs.declared.running.Work.TheVariants.{Make, Serve, Im
 use Rattle.line_work.specs.Auditing.{IsAuditTold, IsLeftAs, IsUnaudited}
 use Rattle.line_work.specs.Applying.{KeepsMore, LeavesApplied}
 use Rattle.service.specs.Printing.{LeavesSheet}
+use Rattle.line_work.specs.declared.disks.ActsDisks.{ActsDisks}
 use Rattle.line_work.specs.Lines.{IsImportedWith, IsImportToldIf, IsPortToldIf, IsServedWith, KeepsImported, OverRows}
 use Rattle.service.specs.declared.books_lines.Sheet.TheVariants as sheet
 
@@ -84,16 +85,16 @@ IsTold g files disk conn (Audit given) old new end left = IsAuditTold given (sta
 IsTold g files disk conn (Apply file) old new end left = (first : ℤ) (acts : List Act) → IsHistory first acts → AreFoundRows first acts (state g conn).committed.trees
     → LeavesApplied g first acts (files file.now) old new end left
 
--- what becomes of the disk for the acts: a server and an import keep there what they do, and other work leaves it alone
-abbrev pub IsKeptBeside : {S D : Type 0} → Ghosts S → DiskGhosts D → (List ℕ → Option (List ℕ)) → Held S → Work → (old new log_old log_new : Option (List ℕ)) → Result Unit Fault → Held S → (before after : Option D) → Type 0
-IsKeptBeside s g files conn (Make day) old new log_old log_new end left before after = after ≡ before
-IsKeptBeside s g files conn (Serve port max log acts_file) old new log_old log_new end left before after = IsServedWith s g (OverRows s conn) max left log end old new log_old log_new before after
-IsKeptBeside s g files conn (Import file acts_file) old new log_old log_new end left before after = IsImportedWith s g (OverRows s conn) (files file.now) left end old new before after
-IsKeptBeside s g files conn (Card lot) old new log_old log_new end left before after = after ≡ before
-IsKeptBeside s g files conn (Notice lot) old new log_old log_new end left before after = after ≡ before
-IsKeptBeside s g files conn History old new log_old log_new end left before after = after ≡ before
-IsKeptBeside s g files conn (Audit given) old new log_old log_new end left before after = after ≡ before
-IsKeptBeside s g files conn (Apply file) old new log_old log_new end left before after = after ≡ before
+-- what becomes of the disks for the acts: a server and an import keep there what they do, and other work leaves them alone
+abbrev pub IsKeptBeside : {S D E : Type 0} → Ghosts S → DiskGhosts D → DiskGhosts E → (List ℕ → Option (List ℕ)) → Held S → Work → (old new log_old log_new : Option (List ℕ)) → Result Unit Fault → Held S → (before after : Option (ActsDisks D E)) → Type 0
+IsKeptBeside s g h files conn (Make day) old new log_old log_new end left before after = after ≡ before
+IsKeptBeside s g h files conn (Serve port max log acts_file) old new log_old log_new end left before after = IsServedWith s g h (OverRows s conn) max left log end old new log_old log_new before after
+IsKeptBeside s g h files conn (Import file acts_file) old new log_old log_new end left before after = IsImportedWith s g h (OverRows s conn) (files file.now) left end old new before after
+IsKeptBeside s g h files conn (Card lot) old new log_old log_new end left before after = after ≡ before
+IsKeptBeside s g h files conn (Notice lot) old new log_old log_new end left before after = after ≡ before
+IsKeptBeside s g h files conn History old new log_old log_new end left before after = after ≡ before
+IsKeptBeside s g h files conn (Audit given) old new log_old log_new end left before after = after ≡ before
+IsKeptBeside s g h files conn (Apply file) old new log_old log_new end left before after = after ≡ before
 
 -- the work was not begun
 abbrev pub IsNotBegun : {S : Type 0} → Ghosts S → Held S → Work → Leftover S → Fault → Type 0

@@ -17,7 +17,10 @@ pub struct KeptActs<D> {
 }
 
 impl<S: Alter, D: Disk> Keeper<S> for KeptActs<D> {
-    ghost use Rattle.line_work.specs.Kept.{keeps_acts, begins_acts, leaves_acts, has_text, has_clean_file};
+    ghost use Rattle.std.specs.Prelude.{ℕ, ℤ, List};
+    ghost use Rattle.line_work.specs.Kept.{keeps_acts, begins_acts, leaves_acts, has_text};
+
+    ghost days = { ℤ };
 
     ghost keeps = { keeps_acts D.Disk };
 
@@ -25,11 +28,11 @@ impl<S: Alter, D: Disk> Keeper<S> for KeptActs<D> {
 
     ghost leaves = { leaves_acts D.Disk };
 
+    ghost texts = { List ℕ };
+
     ghost has_text = { has_text D.Disk };
 
     ghost may_fail = { Unit {0} };
-
-    ghost is_clean = { has_clean_file D.Disk };
 
     fn bring_up(&mut self, alloc: Global, books: &mut Books<S>) -> Result<(), KeepFault> {
         match self.file.bring_up(alloc, books) {

@@ -3,6 +3,7 @@
 
 mod applying;
 mod auditing;
+mod disks;
 mod fault;
 mod importing;
 mod kept_acts;
@@ -10,10 +11,12 @@ mod opening;
 mod row_text;
 mod serving;
 mod shown;
+mod two_files;
 mod working;
 
 pub use applying::{apply, open_and_apply};
 pub use auditing::audit_books;
+pub use disks::ActsDisks;
 pub use fault::fault_of_acts;
 pub use importing::import_line;
 pub use kept_acts::KeptActs;

@@ -4,7 +4,7 @@ ghost use Rattle.sqlite.specs.State.{HasCleanDisk};
 ghost use Rattle.line_work.specs.Lines.{LosesNoLineIf};
 ghost use Rattle.line_work.specs.Works.{Listens, is_logged, IsServer, IsNotBegun, IsWorked, IsJudged, IsTold, IsKeptBeside};
 
-use crate::{audit_books, import_line, open_and_apply, serve_line};
+use crate::{ActsDisks, audit_books, import_line, open_and_apply, serve_line};
 use books_schema::ready_connection::{Leftover, Orderly};
 use command_line::{Fault, FilesAt, Work};
 use service::{AfterWork, NotBegun, Sheet, make_books, open_and_print, open_and_print_acts};
@@ -37,13 +37,13 @@ pub fn listen(rt: &HostRuntime, work: &Work<'_>) -> io::Result<Option<TcpListene
 /// error is `Foreign` for other tables and else `Store`, also for a connection within a transaction; what is left of the
 /// connection comes with it. Rows of a history are never `Foreign`. A file that cannot be opened and output that cannot be
 /// written are `Io` beside the connection. So is a log that takes no more, which ends a server: the client whose line was
-/// cut has its answer. A server's port is that of `listen`. Where there is a disk for the acts, a server and an import keep
-/// there what they do before they answer or tell it, and end where that cannot be kept; other work leaves it alone.
-pub fn do_work<S: Orderly + Drop, D: Disk + Drop, F: FilesAt, W: Write, L: Write>(
+/// cut has its answer. A server's port is that of `listen`. Where there is a disk for the acts, or two, a server and an import
+/// keep there what they do before they answer or tell it, and end where one cannot keep it; other work leaves them alone.
+pub fn do_work<S: Orderly + Drop, D: Disk + Drop, E: Disk + Drop, F: FilesAt, W: Write, L: Write>(
     rt: &HostRuntime,
     files: &F,
     listener: Option<&TcpListener>,
-    acts: &mut Option<D>,
+    acts: &mut Option<ActsDisks<D, E>>,
     conn: Connection<S>,
     work: &Work<'_>,
     out: &mut W,
@@ -53,8 +53,8 @@ pub fn do_work<S: Orderly + Drop, D: Disk + Drop, F: FilesAt, W: Write, L: Write
     ensures clean { IfOk result (λ w. HasCleanDisk (state S.Store w.0) → HasCleanDisk (state S.Store conn)) }
     ensures worked { IfOk result (λ w. HasCleanDisk (state S.Store w.0) → IsWorked S.Store acts.old conn work.now (L.contents log.old) (L.contents log.new) w.1 w.0) }
     ensures told { IfOk result (λ w. HasCleanDisk (state S.Store w.0) → IsTold S.Store (F.bytes files.now) acts.old conn work.now (W.contents out.old) (W.contents out.new) w.1 w.0) }
-    ensures beside { IfOk result (λ w. HasCleanDisk (state S.Store w.0) → IsKeptBeside S.Store D.Disk (F.bytes files.now) conn work.now (W.contents out.old) (W.contents out.new) (L.contents log.old) (L.contents log.new) w.1 w.0 acts.old acts.new) }
-    ensures lines { LosesNoLineIf D.Disk acts.old acts.new }
+    ensures beside { IfOk result (λ w. HasCleanDisk (state S.Store w.0) → IsKeptBeside S.Store D.Disk E.Disk (F.bytes files.now) conn work.now (W.contents out.old) (W.contents out.new) (L.contents log.old) (L.contents log.new) w.1 w.0 acts.old acts.new) }
+    ensures lines { LosesNoLineIf D.Disk E.Disk acts.old acts.new }
     ensures quiet { is_logged work.now ≡ false → log.new ≡ log.old }
     ensures judged { IsJudged S.Store conn work.now result }
     ensures within { conn.in_transaction ≡ true → IsErrAnd result (λ e. (e.0 ≡ Leftover.Connection conn) × (e.1 ≡ Fault.Store)) }

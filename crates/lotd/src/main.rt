@@ -12,6 +12,7 @@ fn main(rt: HostRuntime) -> ExitCode {
         &rt,
         Unknown,
         Unknown,
+        Unknown,
         &words,
         &mut rt.stdout(),
         &mut rt.stderr(),

@@ -1,6 +1,6 @@
 //! Lines of the program that are handed on to no books: what they would do is printed.
 
-use command_line::{BooksAt, Fault, Work};
+use command_line::{ActsNames, BooksAt, Fault, Work};
 use label::BusinessDay;
 use std::alloc::{AllocError, Global};
 use std::io::Write;
@@ -24,6 +24,25 @@ fn of_lot(alloc: Global, word: &str, db: &str, lot: LotId) -> Result<String, All
     format!(in alloc; "{word} {db} {gtin} {text}\n")
 }
 
+// The files of the acts, with `-` where none is named.
+fn files_named(alloc: Global, acts: Option<ActsNames<'_>>) -> Result<String, AllocError> {
+    match acts {
+        None => format!(in alloc; "-"),
+        Some(
+            ActsNames {
+                first,
+                second: None,
+            },
+        ) => format!(in alloc; "{first}"),
+        Some(
+            ActsNames {
+                first,
+                second: Some(second),
+            },
+        ) => format!(in alloc; "{first} {second}"),
+    }
+}
+
 // The work in words, with `-` for a log that is not kept and a file of the acts that is not named.
 fn said(alloc: Global, db: &str, work: &Work<'_>) -> Result<String, AllocError> {
     match *work {
@@ -35,10 +54,12 @@ fn said(alloc: Global, db: &str, work: &Work<'_>) -> Result<String, AllocError> 
             acts,
         } => {
             let log = if log { "log" } else { "-" };
-            format!(in alloc; "serve {db} {port} {max} {log} {}\n", acts.unwrap_or("-"))
+            let acts = files_named(alloc, acts)?;
+            format!(in alloc; "serve {db} {port} {max} {log} {acts}\n")
         }
         Work::Import { file, acts } => {
-            format!(in alloc; "import {db} {file} {}\n", acts.unwrap_or("-"))
+            let acts = files_named(alloc, acts)?;
+            format!(in alloc; "import {db} {file} {acts}\n")
         }
         Work::Card(lot) => of_lot(alloc, "card", db, lot),
         Work::Notice(lot) => of_lot(alloc, "notice", db, lot),

@@ -1,5 +1,5 @@
 -- What importing a goods-in file comes to.
-use Rattle.service.proofs.Words.{◌≡◌, ◌≢◌, ℕ, List, ◌++◌, Ok, Err, Result, Option, Some, None, refl, sym, ap, subst, ◌∙◌, inl, inr, ℤ, IfSome, IsTrue, IsErr, IsErrAnd, OnOk, Ghosts, state, Key, Command, Act, today, IsHistory, acts_after_file, file_read, FileFault, Reader, Memory, Connected, Survives, AreBooks, HoldsBooks, IsClean, KeepsBooks, LeavesOnly, rows_of, AreKeysOf, IsFiled, Tally, RowFault, Refused, StoreRow, ForeignRow, Fault, Usage, Label, File, Row, RefusedText, Audit, Apply, Acts, Value, Io, Store, Foreign, NoHistory, more_filed, KeepsFile, LeavesFile, IsToldOfFile, AreRead, HasFault, IsTaken, IsTakenIn, IsUntaken, IsTallyEnd, IsImported}
+use Rattle.service.proofs.Words.{◌≡◌, ◌≢◌, ℕ, List, ◌++◌, Ok, Err, Result, Option, Some, None, refl, sym, ap, subst, ◌∙◌, inl, inr, ℤ, IfSome, IsTrue, IsErr, IsErrAnd, OnOk, Ghosts, state, Key, Command, Act, today, IsHistory, acts_after_file, file_read, FileFault, Reader, Memory, Connected, Survives, AreBooks, HoldsBooks, IsClean, KeepsBooks, LeavesOnly, rows_of, AreKeysOf, IsFiled, Tally, RowFault, Refused, StoreRow, ForeignRow, Fault, Usage, Label, File, Row, RefusedText, Audit, Apply, Acts, SecondActs, Value, Io, Store, Foreign, NoHistory, more_filed, KeepsFile, LeavesFile, IsToldOfFile, AreRead, HasFault, IsTaken, IsTakenIn, IsUntaken, IsTallyEnd, IsImported}
 
 pub by_fault : {X F : Type 0} (r : Result X F) (f : F) → IsErr r × IsErrAnd r (λ e. e ≡ f) → (P : Result X F → Type 0) → P (Err f) → P r
 by_fault (Ok x) f h P p = absurd (let no = h.0 in cc)
@@ -67,6 +67,7 @@ module _ {S : Type 0} (g : Ghosts S) (first : ℤ) (acts : List Act) where
     holds_still (Audit fault) h = absurd h
     holds_still (Apply fault) h = absurd h
     holds_still Acts h = absurd h
+    holds_still (SecondActs misfit) h = absurd h
     holds_still Value h = absurd h
     holds_still Io h = absurd h
     holds_still Store h = h
@@ -134,6 +135,7 @@ module _ {S : Type 0} (g : Ghosts S) (first : ℤ) (acts : List Act) where
     fault_named (Audit fault) h = absurd h
     fault_named (Apply fault) h = absurd h
     fault_named Acts h = absurd h
+    fault_named (SecondActs misfit) h = absurd h
     fault_named Value h = absurd h
     fault_named Io h = absurd h
     fault_named Store h = h

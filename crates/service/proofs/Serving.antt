@@ -44,7 +44,7 @@ more_logged (Err fault) old mid new texts answers text bytes was h = inr (
     }
     )
 
-module _ {S K : Type 0} (g : Ghosts S) (keeps : K → ℤ → List Act → Type 0) (leaves : K → ℤ → List Act → List Act → Type 0) (first : ℤ) (acts : List Act) where
+module _ {S K B : Type 0} (g : Ghosts S) (keeps : K → B → List Act → Type 0) (leaves : K → B → List Act → List Act → Type 0) (first : ℤ) (acts : List Act) where
   -- before the first text
   pub none_kept : (n : ℕ) (books : Connected S) (asked : Bool) (log : Option (List ℕ)) (keeper : K) → IsHistory first acts → HoldsBooks g first acts books
       → HasKept g keeps leaves first acts n books books asked (Ok tt) log log keeper keeper
@@ -91,7 +91,7 @@ module _ {S K : Type 0} (g : Ghosts S) (keeps : K → ℤ → List Act → Type 
 
   module _ (n : ℕ) (was mid new : Connected S) (end : Result Unit Stopped) (old between last : Option (List ℕ)) (before then after : K) where
     -- one step more
-    kept_on : (e : Result Unit Stopped) (begun : ℤ) (texts answers : List (List ℕ)) (text bytes : List ℕ) (so_far all : List Act) → Run first acts texts answers so_far → Step first so_far text bytes all
+    kept_on : (e : Result Unit Stopped) (begun : B) (texts answers : List (List ℕ)) (text bytes : List ℕ) (so_far all : List Act) → Run first acts texts answers so_far → Step first so_far text bytes all
         → IsKeptTo g keeps leaves first so_far e begun all after → AreKept g keeps leaves first acts e begun (texts ++ text ∷ []) (answers ++ bytes ∷ []) all after
     kept_on (Ok done) begun texts answers text bytes so_far all run step kept = kept
     kept_on (Err Log) begun texts answers text bytes so_far all run step kept = kept
@@ -109,7 +109,7 @@ module _ {S K : Type 0} (g : Ghosts S) (keeps : K → ℤ → List Act → Type 
     }
 
     -- none
-    still : (e : Result Unit Stopped) (begun : ℤ) (texts answers : List (List ℕ)) (all : List Act) → e ≡ Ok tt → after ≡ then → keeps then begun all → AreKept g keeps leaves first acts e begun texts answers all after
+    still : (e : Result Unit Stopped) (begun : B) (texts answers : List (List ℕ)) (all : List Act) → e ≡ Ok tt → after ≡ then → keeps then begun all → AreKept g keeps leaves first acts e begun texts answers all after
     still e begun texts answers all whole same kept =
         subst (λ x. AreKept g keeps leaves first acts x begun texts answers all after) (sym whole) (subst (λ k. keeps k begun all) (sym same) kept)
 
@@ -232,6 +232,7 @@ logged_as g first acts max conn asked stopped end old new told r = subst (λ e. 
     so (Ok done) h = h
     so (Err Log) h = h
     so (Err (Unkept keep.Place)) h = h
+    so (Err (Unkept keep.SecondPlace)) h = h
     so (Err (Unkept keep.Store)) h = h
 
 -- of what ends serving, a keeper that failed may have failed

@@ -53,7 +53,7 @@ pub use Rattle.house.proofs.FileTold.{receipts_have_keys}
 pub use Rattle.house.proofs.Running.{one_more, told_more}
 pub use Rattle.house.proofs.Stepping.{leaves_more, leaves_none}
 pub use Rattle.command_line.specs.declared.fault.Fault.{Fault}
-pub use Rattle.command_line.specs.declared.fault.Fault.TheVariants.{Foreign, Usage, Label, File, Row, Refused as RefusedText, Audit, Apply, Acts, Value, Io, Store}
+pub use Rattle.command_line.specs.declared.fault.Fault.TheVariants.{Foreign, Usage, Label, File, Row, Refused as RefusedText, Audit, Apply, Acts, SecondActs, Value, Io, Store}
 pub use Rattle.service.specs.ActsTold.{fault_told}
 pub use Rattle.service.specs.Failing.{fault_of_books, IsOfBooks, IsCleanBefore, IsUnmade, IsUnopened}
 pub use Rattle.service.specs.Importing.{KeepsFile, LeavesFile, IsToldOfFile, AreRead, HasFault, IsTaken, IsTakenIn, IsUntaken, IsTallyEnd, IsImported, IsTallyTold}

@@ -1,7 +1,7 @@
 -- What importing a goods-in file does to the books, what is kept of it in a second place, and what it tells.
 use Rattle.std.specs.Prelude.{◌≡◌, ◌≢◌, ◌⊎◌, ℕ, ◌++◌, List, codes, decimal, Option, IfSome, Result, Ok, Err, ℤ, IsTrue}
 use Rattle.std.specs.Io.KnownBytes.{Appends}
-use Rattle.service.specs.Words.{Ghosts, Held, state, State, Act, IsHistory, RefusedRow, file_outcome, acts_after_file, Connected, AreBooks, HoldsBooks, KeepsBooks, LeavesOnly, Fault, Usage, Label, File, Row, Refused as RefusedText, Audit, Apply, Acts, Value, Io, Store, Foreign, KeepFault}
+use Rattle.service.specs.Words.{Ghosts, Held, state, State, Act, IsHistory, RefusedRow, file_outcome, acts_after_file, Connected, AreBooks, HoldsBooks, KeepsBooks, LeavesOnly, Fault, Usage, Label, File, Row, Refused as RefusedText, Audit, Apply, Acts, SecondActs, Value, Io, Store, Foreign, KeepFault}
 use Rattle.commands.specs.declared.key.Key.{Key}
 use Rattle.commands.specs.declared.command.Command.{Command}
 use Rattle.machine.specs.Standing.{today}
@@ -87,6 +87,7 @@ module _ {S : Type 0} (g : Ghosts S) (first : ℤ) (acts : List Act) (from : Opt
   IsTakenIn (Err (Audit fault)) new = ⊥
   IsTakenIn (Err (Apply fault)) new = ⊥
   IsTakenIn (Err Acts) new = ⊥
+  IsTakenIn (Err (SecondActs misfit)) new = ⊥
   IsTakenIn (Err Value) new = ⊥
 
   -- the file is refused or could not be read, and its rows are not in the books

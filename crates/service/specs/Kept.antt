@@ -1,7 +1,7 @@
 -- What serving a port does to the books, and what a second place keeps of their acts. `keeps` says what it keeps, `leaves` what a
--- stop leaves of it where it could not keep the acts after, and `begun` is the day from which it counts.
-use Rattle.std.specs.Prelude.{◌≡◌, ◌⊎◌, ℕ, ℤ, List, [], ◌∷◌, ◌++◌, Bool, Option, Result, Ok, Err}
-use Rattle.service.specs.Words.{Ghosts, Held, Act, Connected, Step, Run, StepsTo, IsLogged, KeepFault, Fault, Acts, Io, Store}
+-- stop leaves of it where it could not keep the acts after, and `begun` is by what it counts the days: one day for each of its places.
+use Rattle.std.specs.Prelude.{◌≡◌, ◌⊎◌, ℕ, ℤ, List, [], ◌∷◌, ◌++◌, Bool, Option, None, Result, Ok, Err}
+use Rattle.service.specs.Words.{Ghosts, Held, Act, Connected, Step, Run, StepsTo, IsLogged, KeepFault, Fault, Acts, SecondActs, Io, Store}
 use Rattle.house.specs.declared.keeping.KeepFault.TheVariants as keep
 use Rattle.service.specs.Serving.{HasLogged, KeepsLogged}
 use Rattle.service.specs.declared.serve.Stopped.{Stopped}
@@ -25,6 +25,7 @@ sent_to (Err stopped) = sent_till stopped
 -- why acts are not kept, as a line tells it
 abbrev pub fault_of_keep : KeepFault → Fault
 fault_of_keep keep.Place = Acts
+fault_of_keep keep.SecondPlace = SecondActs None
 fault_of_keep keep.Store = Store
 
 -- how a port was served, as a line tells it
@@ -42,10 +43,10 @@ abbrev pub MayStop : (may_fail : Type 0) → Stopped → Type 0
 MayStop may_fail Log = Unit {0}
 MayStop may_fail (Unkept fault) = may_fail
 
-module _ {S K : Type 0} (g : Ghosts S) (keeps : K → ℤ → List Act → Type 0) (leaves : K → ℤ → List Act → List Act → Type 0) (first : ℤ) (acts : List Act) where
+module _ {S K B : Type 0} (g : Ghosts S) (keeps : K → B → List Act → Type 0) (leaves : K → B → List Act → List Act → Type 0) (first : ℤ) (acts : List Act) where
   -- After a step all acts are kept. Or what was done could not be kept: then a stop leaves the acts before it, some of those that it did,
   -- and part of what was being added.
-  abbrev pub IsKeptTo : Result Unit Stopped → (begun : ℤ) → (after : List Act) → K → Type 0
+  abbrev pub IsKeptTo : Result Unit Stopped → (begun : B) → (after : List Act) → K → Type 0
   IsKeptTo (Ok done) begun after keeper = keeps keeper begun after
   IsKeptTo (Err Log) begun after keeper = keeps keeper begun after
   IsKeptTo (Err (Unkept fault)) begun after keeper = leaves keeper begun acts after
@@ -55,11 +56,11 @@ module _ {S K : Type 0} (g : Ghosts S) (keeps : K → ℤ → List Act → Type 
   GoesOnKept was books end old new before after =
       ((books ≡ was) × (new ≡ old) × (end ≡ Ok tt) × (after ≡ before))
       ⊎ ((text : List ℕ) × (bytes : List ℕ) × (s : StepsTo g first acts text bytes was books) × IsLogged end old new text (sent_to end bytes)
-      × ((begun : ℤ) → keeps before begun acts → IsKeptTo end begun s.after after))
+      × ((begun : B) → keeps before begun acts → IsKeptTo end begun s.after after))
 
   -- the last of the texts got no byte of an answer, and a stop leaves the acts before it, some of those that it did, and part of what was
   -- being added
-  pub record LacksLast (begun : ℤ) (texts answers : List (List ℕ)) (after : List Act) (keeper : K) : Type 0 where
+  pub record LacksLast (begun : B) (texts answers : List (List ℕ)) (after : List Act) (keeper : K) : Type 0 where
     pub earlier_texts : List (List ℕ)
     pub earlier_answers : List (List ℕ)
     pub text : List ℕ
@@ -72,7 +73,7 @@ module _ {S K : Type 0} (g : Ghosts S) (keeps : K → ℤ → List Act → Type 
     pub left : leaves keeper begun before after
 
   -- after a run all acts are kept, or all but those of its last text
-  abbrev pub AreKept : Result Unit Stopped → (begun : ℤ) → (texts answers : List (List ℕ)) → (after : List Act) → K → Type 0
+  abbrev pub AreKept : Result Unit Stopped → (begun : B) → (texts answers : List (List ℕ)) → (after : List Act) → K → Type 0
   AreKept (Ok done) begun texts answers after keeper = keeps keeper begun after
   AreKept (Err Log) begun texts answers after keeper = keeps keeper begun after
   AreKept (Err (Unkept fault)) begun texts answers after keeper = LacksLast begun texts answers after keeper
@@ -82,7 +83,7 @@ module _ {S K : Type 0} (g : Ghosts S) (keeps : K → ℤ → List Act → Type 
   abbrev pub HasKept : (max : ℕ) → (was books : Connected S) → (asked : Bool) → (end : Result Unit Stopped) → (old new : Option (List ℕ)) → (before after : K) → Type 0
   HasKept max was books asked end old new before after =
       (r : HasLogged g first acts max was books asked sent_till end old new)
-      × ((begun : ℤ) → keeps before begun acts → AreKept end begun r.0.texts r.0.answers r.0.runs.after after)
+      × ((begun : B) → keeps before begun acts → AreKept end begun r.0.texts r.0.answers r.0.runs.after after)
 
   -- the same, up to the end that is told
   abbrev pub IsPortServed : (max : ℕ) → (was books : Connected S) → (asked : Bool) → (end : Result Unit Fault) → (old new : Option (List ℕ)) → (before after : K) → Type 0
@@ -94,4 +95,4 @@ module _ {S K : Type 0} (g : Ghosts S) (keeps : K → ℤ → List Act → Type 
     pub stopped : Result Unit Stopped
     pub told : end ≡ end_of stopped
     pub run : KeepsLogged g first acts max conn asked sent_till stopped old new
-    pub kept : (begun : ℤ) → keeps before begun acts → AreKept stopped begun run.0.texts run.0.answers run.0.after after
+    pub kept : (begun : B) → keeps before begun acts → AreKept stopped begun run.0.texts run.0.answers run.0.after after

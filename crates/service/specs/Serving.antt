@@ -1,7 +1,7 @@
 -- What serving a port does to the books, and what is told of it.
 use Rattle.std.specs.Prelude.{◌≡◌, ◌⊎◌, ◌≤◌, ℕ, ℤ, List, [], ◌∷◌, length, zip, Bool, true, Option, Result, Ok, Err, ◌++◌, codes}
 use Rattle.std.specs.Fmt.{decimal}
-use Rattle.service.specs.Words.{Ghosts, Held, state, Act, IsHistory, Connected, KeepsBooks, Run, RunsTo, LeavesBooks, HasLine, Fault, Usage, Label, File, Row, Refused, Audit, Apply, Acts, Value, Io, Store, Foreign}
+use Rattle.service.specs.Words.{Ghosts, Held, state, Act, IsHistory, Connected, KeepsBooks, Run, RunsTo, LeavesBooks, HasLine, Fault, Usage, Label, File, Row, Refused, Audit, Apply, Acts, SecondActs, Value, Io, Store, Foreign}
 use Rattle.texts.specs.Writing.{AppendsBeginning}
 use Rattle.wire.specs.Logging.{log_line}
 
@@ -56,6 +56,7 @@ sent_by (Refused why) = λ bytes. []
 sent_by (Audit fault) = λ bytes. []
 sent_by (Apply fault) = λ bytes. []
 sent_by Acts = λ bytes. []
+sent_by (SecondActs misfit) = λ bytes. []
 sent_by Value = λ bytes. []
 sent_by Io = λ bytes. bytes
 sent_by Store = λ bytes. []

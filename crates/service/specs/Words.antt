@@ -10,4 +10,4 @@ pub use Rattle.house.specs.House.{Step, Run, StepsTo, RunsTo, LeavesBooks}
 pub use Rattle.house.specs.Serving.{IsLogged, HasLine}
 pub use Rattle.house.specs.declared.keeping.KeepFault.{KeepFault}
 pub use Rattle.command_line.specs.declared.fault.Fault.{Fault}
-pub use Rattle.command_line.specs.declared.fault.Fault.TheVariants.{Io, Store, Foreign, Usage, Label, File, Row, Refused, Audit, Apply, Acts, Value}
+pub use Rattle.command_line.specs.declared.fault.Fault.TheVariants.{Io, Store, Foreign, Usage, Label, File, Row, Refused, Audit, Apply, Acts, SecondActs, Value}

@@ -7,12 +7,14 @@ use crate::serve::Stopped;
 use command_line::Fault;
 use house::KeepFault;
 
-/// Why acts are not kept: `Acts` where the place does not take them, `Store` for memory or the disk of the books.
+/// Why acts are not kept: `Acts` where the place does not take them, or `SecondActs` where the second one does not, and `Store`
+/// for memory or the disk of the books.
 pub(crate) fn fault_of_keep(fault: KeepFault) -> Fault
     ensures { result ≡ fault_of_keep_lem fault }
 {
     match fault {
         KeepFault::Place => Fault::Acts,
+        KeepFault::SecondPlace => Fault::SecondActs(None),
         KeepFault::Store => Fault::Store,
     }
 }

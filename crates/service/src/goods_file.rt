@@ -1,6 +1,6 @@
 //! A goods-in file, imported.
 
-ghost use Rattle.std.specs.Prelude.{◌≡◌, ◌++◌, ℕ, ℤ, List, OnOk, IsTrue};
+ghost use Rattle.std.specs.Prelude.{◌≡◌, ◌++◌, ℤ, List, OnOk};
 ghost use Rattle.std.specs.Io.KnownBytes.{Appends};
 ghost use Rattle.sqlite.specs.Held.{state};
 ghost use Rattle.sqlite.specs.State.{HasCleanDisk, Survives};
@@ -31,12 +31,11 @@ pub fn import_books<S: Alter + Drop, F: FilesAt, W: Write, K: Keeper<S>>(
     keeper: &mut K,
 ) -> AfterWork<S>
     ensures clean { HasCleanDisk (state S.Store result.0) → IsClean S.Store books }
-    ensures imported { HasCleanDisk (state S.Store result.0) → (first begun : ℤ) (acts : List Act) → IsHistory first acts → HoldsBooks S.Store first acts books
+    ensures imported { HasCleanDisk (state S.Store result.0) → (first : ℤ) (begun : K.days) (acts : List Act) → IsHistory first acts → HoldsBooks S.Store first acts books
         → LeavesOnly first acts (state S.Store books.conn) → K.keeps keeper.old begun acts
         → (after : Connected S) × (result.0 ≡ after.conn)
         × IsImported S.Store first acts (F.bytes files.now name.now) (K.keeps keeper.new begun) (K.leaves keeper.new begun acts) K.may_fail result.1 after (W.contents out.old) (W.contents out.new) }
-    ensures loses { (text : List ℕ) → K.has_text keeper.old text → K.has_text keeper.new text }
-    ensures calm { IsTrue (K.is_clean keeper.new) → IsTrue (K.is_clean keeper.old) }
+    ensures loses { (text : K.texts) → K.has_text keeper.old text → K.has_text keeper.new text }
 {
     let mut books = books;
     let end = import_named(alloc, files, &mut books, name, out, keeper);
@@ -53,11 +52,10 @@ fn import_named<S: Alter, F: FilesAt, W: Write, K: Keeper<S>>(
     keeper: &mut K,
 ) -> Result<(), Fault>
     ensures clean { IsClean S.Store books.new → IsClean S.Store books.old }
-    ensures imported { IsClean S.Store books.new → (first begun : ℤ) (acts : List Act) → IsHistory first acts → HoldsBooks S.Store first acts books.old
+    ensures imported { IsClean S.Store books.new → (first : ℤ) (begun : K.days) (acts : List Act) → IsHistory first acts → HoldsBooks S.Store first acts books.old
         → LeavesOnly first acts (state S.Store books.old.conn) → K.keeps keeper.old begun acts
         → IsImported S.Store first acts (F.bytes files.now name.now) (K.keeps keeper.new begun) (K.leaves keeper.new begun acts) K.may_fail result books.new (W.contents out.old) (W.contents out.new) }
-    ensures loses { (text : List ℕ) → K.has_text keeper.old text → K.has_text keeper.new text }
-    ensures calm { IsTrue (K.is_clean keeper.new) → IsTrue (K.is_clean keeper.old) }
+    ensures loses { (text : K.texts) → K.has_text keeper.old text → K.has_text keeper.new text }
 {
     match files.open(name) {
         Ok(file) => import(alloc, books, file, out, keeper),
@@ -78,11 +76,10 @@ fn import<S: Alter, R: Read + Drop, W: Write, K: Keeper<S>>(
     keeper: &mut K,
 ) -> Result<(), Fault>
     ensures clean { IsClean S.Store books.new → IsClean S.Store books.old }
-    ensures imported { IsClean S.Store books.new → (first begun : ℤ) (acts : List Act) → IsHistory first acts → HoldsBooks S.Store first acts books.old
+    ensures imported { IsClean S.Store books.new → (first : ℤ) (begun : K.days) (acts : List Act) → IsHistory first acts → HoldsBooks S.Store first acts books.old
         → LeavesOnly first acts (state S.Store books.old.conn) → K.keeps keeper.old begun acts
         → IsImported S.Store first acts (R.remaining file) (K.keeps keeper.new begun) (K.leaves keeper.new begun acts) K.may_fail result books.new (W.contents out.old) (W.contents out.new) }
-    ensures loses { (text : List ℕ) → K.has_text keeper.old text → K.has_text keeper.new text }
-    ensures calm { IsTrue (K.is_clean keeper.new) → IsTrue (K.is_clean keeper.old) }
+    ensures loses { (text : K.texts) → K.has_text keeper.old text → K.has_text keeper.new text }
 {
     let tally = take_in(alloc, books, file)?;
     keep_and_tell(alloc, books, tally, out, keeper)
@@ -133,13 +130,12 @@ fn keep_and_tell<S: Alter, W: Write, K: Keeper<S>>(
     keeper: &mut K,
 ) -> Result<(), Fault>
     ensures clean { IsClean S.Store books.new → IsClean S.Store books.old }
-    ensures told { IsClean S.Store books.new → (first begun : ℤ) (newer older : List Act) → IsHistory first (newer ++ older) → HoldsBooks S.Store first (newer ++ older) books.old → K.keeps keeper.old begun older
+    ensures told { IsClean S.Store books.new → (first : ℤ) (begun : K.days) (newer older : List Act) → IsHistory first (newer ++ older) → HoldsBooks S.Store first (newer ++ older) books.old → K.keeps keeper.old begun older
         → HoldsBooks S.Store first (newer ++ older) books.new
         × IsTallyEnd (K.keeps keeper.new begun (newer ++ older)) (K.leaves keeper.new begun older (newer ++ older)) K.may_fail tally result (W.contents out.old) (W.contents out.new) }
     ensures still { ¬ K.may_fail → books.new ≡ books.old }
     ensures survives { Survives (state S.Store books.old.conn) (state S.Store books.new.conn) (NoHistory S.Store books.old) }
-    ensures loses { (text : List ℕ) → K.has_text keeper.old text → K.has_text keeper.new text }
-    ensures calm { IsTrue (K.is_clean keeper.new) → IsTrue (K.is_clean keeper.old) }
+    ensures loses { (text : K.texts) → K.has_text keeper.old text → K.has_text keeper.new text }
 {
     match keeper.bring_up(alloc, books) {
         Ok(()) => print_tally(tally, out),

@@ -1,6 +1,6 @@
 //! A port that is served from open books.
 
-ghost use Rattle.std.specs.Prelude.{◌≡◌, ℕ, ℤ, List, false, IfErr, IsTrue};
+ghost use Rattle.std.specs.Prelude.{◌≡◌, ℤ, List, false, IfErr};
 ghost use Rattle.texts.specs.Writing.{Writes};
 ghost use Rattle.sqlite.specs.Held.{state};
 ghost use Rattle.sqlite.specs.State.{HasCleanDisk};
@@ -42,8 +42,7 @@ pub fn serve_books<S: Alter + Drop, W: Write, L: Write, K: Keeper<S>>(
         → LeavesOnly first acts (state S.Store books.conn)
         → KeepsServed S.Store K.keeps K.leaves first acts max result.0 logged result.1 (L.contents log.old) (L.contents log.new) keeper.old keeper.new }
     ensures fails { IfErr result.1 (MayEnd K.may_fail) }
-    ensures loses { (text : List ℕ) → K.has_text keeper.old text → K.has_text keeper.new text }
-    ensures calm { IsTrue (K.is_clean keeper.new) → IsTrue (K.is_clean keeper.old) }
+    ensures loses { (text : K.texts) → K.has_text keeper.old text → K.has_text keeper.new text }
     ensures quiet { logged ≡ false → log.new ≡ log.old }
     ensures told { Writes result.1 (W.contents out.old) (W.contents out.new) (told_port port) }
 {
@@ -71,8 +70,7 @@ fn serve_port<S: Alter + Drop, W: Write, L: Write, K: Keeper<S>>(
         → (first : ℤ) (acts : List Act) → IsHistory first acts → HoldsBooks S.Store first acts (books_of house.old)
         → IsPortServed S.Store K.keeps K.leaves first acts max (books_of house.old) (books_of house.new) logged result (L.contents log.old) (L.contents log.new) keeper.old keeper.new }
     ensures fails { IfErr result (MayEnd K.may_fail) }
-    ensures loses { (text : List ℕ) → K.has_text keeper.old text → K.has_text keeper.new text }
-    ensures calm { IsTrue (K.is_clean keeper.new) → IsTrue (K.is_clean keeper.old) }
+    ensures loses { (text : K.texts) → K.has_text keeper.old text → K.has_text keeper.new text }
     ensures quiet { logged ≡ false → log.new ≡ log.old }
     ensures told { Writes result (W.contents out.old) (W.contents out.new) (told_port port) }
 {

@@ -1,4 +1,4 @@
-ghost use Rattle.std.specs.Prelude.{◌≡◌, ℕ, ℤ, List, true, false, IsTrue, IfErr};
+ghost use Rattle.std.specs.Prelude.{◌≡◌, ℤ, List, true, false, IfErr};
 ghost use Rattle.machine.specs.Acts.{Act};
 ghost use Rattle.machine.specs.Once.{IsHistory};
 ghost use Rattle.store.specs.Books.{IsClean, HoldsBooks};
@@ -85,8 +85,7 @@ pub fn serve_kept<C: Clock, S: Alter + Drop, L: Write, K: Keeper<S>>(
         → (first : ℤ) (acts : List Act) → IsHistory first acts → HoldsBooks S.Store first acts (books_of house.old)
         → HasKept S.Store K.keeps K.leaves first acts max (books_of house.old) (books_of house.new) true result (L.contents log.old) (L.contents log.new) keeper.old keeper.new }
     ensures fails { IfErr result (λ e. MayStop K.may_fail e) }
-    ensures loses { (text : List ℕ) → K.has_text keeper.old text → K.has_text keeper.new text }
-    ensures calm { IsTrue (K.is_clean keeper.new) → IsTrue (K.is_clean keeper.old) }
+    ensures loses { (text : K.texts) → K.has_text keeper.old text → K.has_text keeper.new text }
 {
     for _ in 0..max {
         serve_next(clock, listener, house, log, keeper)?;
@@ -109,8 +108,7 @@ pub(crate) fn serve_kept_if<C: Clock, S: Alter + Drop, L: Write, K: Keeper<S>>(
         → (first : ℤ) (acts : List Act) → IsHistory first acts → HoldsBooks S.Store first acts (books_of house.old)
         → HasKept S.Store K.keeps K.leaves first acts max (books_of house.old) (books_of house.new) logged result (L.contents log.old) (L.contents log.new) keeper.old keeper.new }
     ensures fails { IfErr result (λ e. MayStop K.may_fail e) }
-    ensures loses { (text : List ℕ) → K.has_text keeper.old text → K.has_text keeper.new text }
-    ensures calm { IsTrue (K.is_clean keeper.new) → IsTrue (K.is_clean keeper.old) }
+    ensures loses { (text : K.texts) → K.has_text keeper.old text → K.has_text keeper.new text }
     ensures quiet { logged ≡ false → log.new ≡ log.old }
 {
     if logged {
@@ -133,8 +131,7 @@ fn serve_next<C: Clock, S: Alter + Drop, L: Write, K: Keeper<S>>(
         → (first : ℤ) (acts : List Act) → IsHistory first acts → HoldsBooks S.Store first acts (books_of house.old)
         → GoesOnKept S.Store K.keeps K.leaves first acts (books_of house.old) (books_of house.new) result (L.contents log.old) (L.contents log.new) keeper.old keeper.new }
     ensures fails { IfErr result (λ e. MayStop K.may_fail e) }
-    ensures loses { (text : List ℕ) → K.has_text keeper.old text → K.has_text keeper.new text }
-    ensures calm { IsTrue (K.is_clean keeper.new) → IsTrue (K.is_clean keeper.old) }
+    ensures loses { (text : K.texts) → K.has_text keeper.old text → K.has_text keeper.new text }
 {
     if let Ok((stream, _)) = listener.accept() {
         if let Ok(start) = Instant::now(clock) {
@@ -157,8 +154,7 @@ fn serve_stream<C: Clock, S: Alter + Drop, L: Write, K: Keeper<S>>(
         → (first : ℤ) (acts : List Act) → IsHistory first acts → HoldsBooks S.Store first acts (books_of house.old)
         → GoesOnKept S.Store K.keeps K.leaves first acts (books_of house.old) (books_of house.new) result (L.contents log.old) (L.contents log.new) keeper.old keeper.new }
     ensures fails { IfErr result (λ e. MayStop K.may_fail e) }
-    ensures loses { (text : List ℕ) → K.has_text keeper.old text → K.has_text keeper.new text }
-    ensures calm { IsTrue (K.is_clean keeper.new) → IsTrue (K.is_clean keeper.old) }
+    ensures loses { (text : K.texts) → K.has_text keeper.old text → K.has_text keeper.new text }
 {
     let mut reader = Timed {
         stream,

@@ -17,6 +17,9 @@ store
 foreign books
 io
 acts
+acts 2
+acts 2 differs act 17
+acts 2 lacks act 18446744073709551615
 G02 row 2
 G04
 Q02 row 3
@@ -30,7 +33,7 @@ lacks act 1000000000000
 line 18446744073709551615
 S10 act 17";
 
-fn ends(rt: &impl Abort) -> [Fault; 17] {
+fn ends(rt: &impl Abort) -> [Fault; 20] {
     let table = Text::new(TABLE.as_bytes()).expect(rt, "a table");
     let key = Text::new(KEY.as_bytes()).expect(rt, "a key");
     let (act, refusal) = (17, Refusal::OverReserved);
@@ -40,6 +43,9 @@ fn ends(rt: &impl Abort) -> [Fault; 17] {
         Fault::Foreign,
         Fault::Io,
         Fault::Acts,
+        Fault::SecondActs(None),
+        Fault::SecondActs(Some(ApplyFault::Differs { act })),
+        Fault::SecondActs(Some(ApplyFault::Lacks { act: u64::MAX })),
         Fault::File(FileFault::Row(2)),
         Fault::File(FileFault::Reader),
         Fault::Row { row: 3, refusal },

@@ -1,39 +1,26 @@
-use Rattle.line_work.proofs.Words.{inl, inr, refl, subst, sym, state, HasCleanDisk, leaves_on, LosesNoLine}
-use Rattle.line_work.proofs.Imported.{import_done}
-use Rattle.line_work.proofs.Opened.{refused}
+use Rattle.line_work.proofs.Words.{None, refl, sym, subst, LosesNoLine, IsDoneWith, IsImportEndBy}
 use Rattle.line_work.proofs.importing.import_beside.Goals as goal
 
-pub returns-in-Ok-clause-clean : goal.returns-in-Ok-clause-clean
-returns-in-Ok-clause-clean g c clean = c.in-Ok.ensures.clean (c.import_books-done.ensures.clean clean)
+pub returns-in-Some-clause-beside : goal.returns-in-Some-clause-beside
+returns-in-Some-clause-beside g c clean first older history holds only =
+    let done = c.import_beside_both in
+    let at = g.W.Write.contents in
+    subst (λ s. IsImportEndBy g.S.Store g.D.Disk g.E.Disk first older c.args.disks.first s (g.F.FilesAt.bytes c.args.files.now c.args.name.now) done.result.0.0 done.result.0.1 (at c.args.out.now) (at done.new.out) done.result.1)
+    (sym c.in-Some.is) (done.ensures.beside clean first older history holds only)
 
-pub returns-in-Ok-clause-beside : goal.returns-in-Ok-clause-beside
-returns-in-Ok-clause-beside g c clean first older history holds only =
-    let s = g.S.Store in
-    let done = c.import_books-done in
-    let was = done.ensures.clean clean in
-    let o = c.in-Ok.ensures.kept was first older history holds in
-    let on = leaves_on s c.args.books c.open_acts.new.books first older was history holds c.in-Ok.ensures.survives only in
-    let it = done.ensures.imported clean first o.1.begun older history o.0 on o.1.opened.keeps in
-    inr (c.in-Ok.file, o.1, import_done s g.D.Disk first o.1.begun older _ done.result.1 it.0 _ _ done.new.keeper done.result.0 c.into_disk.result it.1 c.into_disk.ensures history it.2)
+pub returns-in-Some-clause-lines : goal.returns-in-Some-clause-lines
+returns-in-Some-clause-lines g c =
+    let done = c.import_beside_both in
+    subst (λ s. LosesNoLine g.D.Disk c.args.disks.first done.result.1.first × IsDoneWith (LosesNoLine g.E.Disk) s done.result.1.second) (sym c.in-Some.is) done.ensures.lines
 
-pub returns-in-Err-clause-clean : goal.returns-in-Err-clause-clean
-returns-in-Err-clause-clean g c clean = c.in-Err.ensures.clean (subst (λ h. HasCleanDisk (state g.S.Store h)) c.not_kept.ensures.conn clean)
+pub returns-in-None-clause-beside : goal.returns-in-None-clause-beside
+returns-in-None-clause-beside g c clean first older history holds only =
+    let done = c.import_beside_one-done in
+    let at = g.W.Write.contents in
+    subst (λ s. IsImportEndBy g.S.Store g.D.Disk g.E.Disk first older c.args.disks.first s (g.F.FilesAt.bytes c.args.files.now c.args.name.now) done.result.0.0 done.result.0.1 (at c.args.out.now) (at done.new.out) (record { first = done.result.1; second = None }))
+    (sym c.in-None.is) (done.ensures.beside clean first older history holds only, refl)
 
-pub returns-in-Err-clause-beside : goal.returns-in-Err-clause-beside
-returns-in-Err-clause-beside g c clean first older history holds only =
-    let none = c.not_kept in
-    let was = subst (λ h. HasCleanDisk (state g.S.Store h)) none.ensures.conn clean in
-    let o = c.in-Err.ensures.kept was first older history holds in
-    let on = leaves_on g.S.Store c.args.books c.open_acts.new.books first older was history holds c.in-Err.ensures.survives only in
-    inl (
-      refused g.S.Store g.D.Disk first older c.open_acts.new.books none.result.0.0 c.args.disk none.result.1 c.in-Err.not_opened none.result.0.1 none.ensures.conn none.ensures.disk none.ensures.end o.0 on o.2,
-      refl,
-    )
-
-pub returns-in-Ok-clause-lines : goal.returns-in-Ok-clause-lines
-returns-in-Ok-clause-lines g c =
-    let done = c.import_books-done in
-    subst (LosesNoLine g.D.Disk c.args.disk) (sym c.into_disk.ensures) (λ clean only lines rest are is. (done.ensures.loses lines (c.in-Ok.ensures.lines (done.ensures.calm clean) only lines rest are is)).0)
-
-pub returns-in-Err-clause-lines : goal.returns-in-Err-clause-lines
-returns-in-Err-clause-lines g c = subst (LosesNoLine g.D.Disk c.args.disk) (sym c.not_kept.ensures.disk) c.in-Err.ensures.unopened
+pub returns-in-None-clause-lines : goal.returns-in-None-clause-lines
+returns-in-None-clause-lines g c =
+    let done = c.import_beside_one-done in
+    subst (λ s. LosesNoLine g.D.Disk c.args.disks.first done.result.1 × IsDoneWith (LosesNoLine g.E.Disk) s None) (sym c.in-None.is) (done.ensures.lines, refl)

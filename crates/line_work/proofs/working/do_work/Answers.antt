@@ -142,7 +142,7 @@ returns-in-Serve-clause-beside g c =
     let at = g.W.Write.contents in
     let in_log = g.L.Write.contents in
     subst (λ work. IfOk c.serve_line.result (λ w. HasCleanDisk (state g.S.Store w.0)
-    → IsKeptBeside g.S.Store g.D.Disk (g.F.FilesAt.bytes c.args.files.now) c.args.conn work (at c.args.out.now) (at c.serve_line.new.out) (in_log c.args.log.now) (in_log c.serve_line.new.log) w.1 w.0 c.args.acts.now c.serve_line.new.acts))
+    → IsKeptBeside g.S.Store g.D.Disk g.E.Disk (g.F.FilesAt.bytes c.args.files.now) c.args.conn work (at c.args.out.now) (at c.serve_line.new.out) (in_log c.args.log.now) (in_log c.serve_line.new.log) w.1 w.0 c.args.acts.now c.serve_line.new.acts))
     (sym c.in-Serve.is) c.serve_line.ensures.beside
 
 pub returns-in-Import-clause-beside : goal.returns-in-Import-clause-beside
@@ -150,23 +150,23 @@ returns-in-Import-clause-beside g c =
     let at = g.W.Write.contents in
     let log = g.L.Write.contents c.args.log.now in
     subst (λ work. IfOk c.import_line.result (λ w. HasCleanDisk (state g.S.Store w.0)
-    → IsKeptBeside g.S.Store g.D.Disk (g.F.FilesAt.bytes c.args.files.now) c.args.conn work (at c.args.out.now) (at c.import_line.new.out) log log w.1 w.0 c.args.acts.now c.import_line.new.acts))
+    → IsKeptBeside g.S.Store g.D.Disk g.E.Disk (g.F.FilesAt.bytes c.args.files.now) c.args.conn work (at c.args.out.now) (at c.import_line.new.out) log log w.1 w.0 c.args.acts.now c.import_line.new.acts))
     (sym c.in-Import.is) c.import_line.ensures.beside
 
 pub returns-in-Make-clause-lines : goal.returns-in-Make-clause-lines
-returns-in-Make-clause-lines g c = left_alone g.D.Disk c.args.acts.now
+returns-in-Make-clause-lines g c = left_alone g.D.Disk g.E.Disk c.args.acts.now
 
 pub returns-in-Card-clause-lines : goal.returns-in-Card-clause-lines
-returns-in-Card-clause-lines g c = left_alone g.D.Disk c.args.acts.now
+returns-in-Card-clause-lines g c = left_alone g.D.Disk g.E.Disk c.args.acts.now
 
 pub returns-in-Notice-clause-lines : goal.returns-in-Notice-clause-lines
-returns-in-Notice-clause-lines g c = left_alone g.D.Disk c.args.acts.now
+returns-in-Notice-clause-lines g c = left_alone g.D.Disk g.E.Disk c.args.acts.now
 
 pub returns-in-History-clause-lines : goal.returns-in-History-clause-lines
-returns-in-History-clause-lines g c = left_alone g.D.Disk c.args.acts.now
+returns-in-History-clause-lines g c = left_alone g.D.Disk g.E.Disk c.args.acts.now
 
 pub returns-in-Audit-clause-lines : goal.returns-in-Audit-clause-lines
-returns-in-Audit-clause-lines g c = left_alone g.D.Disk c.args.acts.now
+returns-in-Audit-clause-lines g c = left_alone g.D.Disk g.E.Disk c.args.acts.now
 
 pub returns-in-Apply-clause-lines : goal.returns-in-Apply-clause-lines
-returns-in-Apply-clause-lines g c = left_alone g.D.Disk c.args.acts.now
+returns-in-Apply-clause-lines g c = left_alone g.D.Disk g.E.Disk c.args.acts.now

@@ -8,7 +8,6 @@ loop-init g c = record {
   clean = λ clean. clean;
   served = λ clean first acts history holds. none_kept g.S.Store g.K.Keeper.keeps g.K.Keeper.leaves first acts 0 (books_of c.args.house.now) true (g.L.Write.contents c.args.log.now) c.args.keeper.now history holds;
   loses = λ text has. has;
-  calm = λ clean. clean;
 }
 
 pub loop-preserved : goal.loop-preserved
@@ -23,7 +22,6 @@ loop-preserved g c =
           (at c.args.log.now) (at c.loop.log) (at c.serve_next.new.log) c.args.keeper.now c.loop.keeper c.serve_next.new.keeper (was.served (next.clean clean) first acts history holds)
           (λ a h b. next.step clean first a h b);
       loses = λ text has. next.loses text (was.loses text has);
-      calm = λ clean. was.calm (next.calm clean);
     }
 
 pub returns-in_err-serve_next-clause-served : goal.returns-in_err-serve_next-clause-served

@@ -8,10 +8,10 @@ pub returns-in-Err-clause-leaves : goal.returns-in-Err-clause-leaves
 returns-in-Err-clause-leaves g c clean first begun newer older history holds keeps = (newer, refl, (c.in-Err.ensures.kept clean first begun newer older history holds keeps).2.has)
 
 pub returns-in-Ok-clause-loses : goal.returns-in-Ok-clause-loses
-returns-in-Ok-clause-loses g c = c.bring_up.ensures.loses.kept
+returns-in-Ok-clause-loses g c text has clean = c.bring_up.ensures.loses.kept text (has (c.bring_up.ensures.loses.clean clean))
 
 pub returns-in-Err-clause-loses : goal.returns-in-Err-clause-loses
-returns-in-Err-clause-loses g c = c.bring_up.ensures.loses.kept
+returns-in-Err-clause-loses g c text has clean = c.bring_up.ensures.loses.kept text (has (c.bring_up.ensures.loses.clean clean))
 
 pub returns-in-Ok-clause-still : goal.returns-in-Ok-clause-still
 returns-in-Ok-clause-still g c never = absurd (never tt)
