@@ -1,4 +1,4 @@
-//! What bytes an answer is.
+//! What bytes an answer is; and what a request reads as, of `requests`.
 #![tactic(auto)]
 
 mod answer;
@@ -18,4 +18,5 @@ mod stock;
 mod text;
 
 pub use answer::{Answer, Block, write_answer, write_short};
+pub use requests::read_request;
 pub use serving::ServeFault;
