@@ -35,6 +35,7 @@ pub use rows::{
 pub use short::Short;
 pub use sink::{Sink, Stop, feed};
 pub use spelling::spell;
+pub use values::LeastDays;
 pub use views::{
     BinUnits, CardView, LineView, LotStatus, LotView, NoticeView, OrderView, ReservedLot,
     ShippedUnits, ShortLine, ShortView, StagedLot, StockView,
