@@ -329,9 +329,10 @@ GOODS = {"G01": "delivery\n", "G02": row("d", 1, G, "F", "2027-01-31", "A-01"), 
 # Of each GET a path that is refused, and by what.
 NOT_THERE = [("U04", "/openorders/NONE"), ("U01", "/itemnames/" + NONE), ("U03", "/expiring/2199-12-31/%s/NONE" % G), ("U02", "/bins/NONE"), ("U02", "/bins/NONE/%s/F" % G),
              ("U03", "/bins/A-01/%s/NONE" % G), ("U04", "/orders/NONE"), ("U01", "/stock/" + NONE), ("U04", "/picklists/NONE"), ("U01", "/shortages/" + NONE),
-             ("U01", "/cards/%s/F" % NONE), ("U03", "/cards/%s/NONE" % G), ("U01", "/notices/%s/F" % NONE), ("N01", "/notices/%s/F" % G)]
+             ("U01", "/cards/%s/F" % NONE), ("U03", "/cards/%s/NONE" % G), ("U01", "/notices/%s/F" % NONE), ("N01", "/notices/%s/F" % G),
+             ("U01", "/traces/%s/F" % NONE), ("U03", "/traces/%s/NONE" % G), ("U04", "/picks/NONE")]
 NO_VALUE = ["/openorders/a", "/itemnames/1", "/expiring/2026-02-30", "/expiring/2026-06-30/1/F", "/bins/a", "/bins/A-01/1/F", "/orders/a", "/stock/1", "/picklists/a", "/shortages/1",
-            "/cards/%s/%%20" % G, "/notices/%s/%%20" % G]
+            "/cards/%s/%%20" % G, "/notices/%s/%%20" % G, "/traces/%s/%%20" % G, "/picks/a"]
 
 
 def lists():
