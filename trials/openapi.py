@@ -213,7 +213,7 @@ def row(delivery, line, gtin, lot, expiry, place):
 
 def filled(path):
     """A path with values in the place of its parameters."""
-    for name, value in {"order": "O-1", "bin": "A-01", "gtin": G, "lot": "F", "day": "2199-12-31"}.items():
+    for name, value in {"order": "O-1", "bin": "A-01", "gtin": G, "lot": "F", "day": "2199-12-31", "number": "1", "n": "0"}.items():
         path = path.replace("{%s}" % name, value)
     return path
 
@@ -330,9 +330,9 @@ GOODS = {"G01": "delivery\n", "G02": row("d", 1, G, "F", "2027-01-31", "A-01"), 
 NOT_THERE = [("U04", "/openorders/NONE"), ("U01", "/itemnames/" + NONE), ("U03", "/expiring/2199-12-31/%s/NONE" % G), ("U02", "/bins/NONE"), ("U02", "/bins/NONE/%s/F" % G),
              ("U03", "/bins/A-01/%s/NONE" % G), ("U04", "/orders/NONE"), ("U01", "/stock/" + NONE), ("U04", "/picklists/NONE"), ("U01", "/shortages/" + NONE),
              ("U01", "/cards/%s/F" % NONE), ("U03", "/cards/%s/NONE" % G), ("U01", "/notices/%s/F" % NONE), ("N01", "/notices/%s/F" % G),
-             ("U01", "/traces/%s/F" % NONE), ("U03", "/traces/%s/NONE" % G), ("U04", "/picks/NONE")]
+             ("U01", "/traces/%s/F" % NONE), ("U03", "/traces/%s/NONE" % G), ("U04", "/picks/NONE"), ("N02", "/shipments/2")]
 NO_VALUE = ["/openorders/a", "/itemnames/1", "/expiring/2026-02-30", "/expiring/2026-06-30/1/F", "/bins/a", "/bins/A-01/1/F", "/orders/a", "/stock/1", "/picklists/a", "/shortages/1",
-            "/cards/%s/%%20" % G, "/notices/%s/%%20" % G, "/traces/%s/%%20" % G, "/picks/a"]
+            "/cards/%s/%%20" % G, "/notices/%s/%%20" % G, "/traces/%s/%%20" % G, "/picks/a", "/shipments/a", "/acts/a"]
 
 
 def lists():
@@ -437,7 +437,7 @@ def full(served):
         refused("Q05", "/adjustments", key="NEW", **{**RIGHT["/adjustments"], "change": 1_000_000})
         for path in ("/orders", "/urgents"):
             refused("Q06", path, key="NEW", **{**RIGHT[path], "lines": [{"gtin": G, "qty": 1_000_000}]})
-    with served("rows that no act leaves", "UPDATE items SET name = ' '", "UPDATE bins SET kind = 'x'", "UPDATE orders SET customer = ' '", "UPDATE lots SET held = 2", "UPDATE cards SET kind = 'x'"):
+    with served("rows that no act leaves", "UPDATE items SET name = ' '", "UPDATE bins SET kind = 'x'", "UPDATE orders SET customer = ' '", "UPDATE lots SET held = 2", "UPDATE cards SET kind = 'x'", "UPDATE repeats SET spell = 'x'"):
         for path in PATHS:
             if "get" in PATHS[path] and path != "/books":
                 got("W91", filled(path).replace("/F", "/R") if path.startswith("/notices") else filled(path))
