@@ -37,7 +37,7 @@ from server import TOP
 
 def has_all_words():
     """Every code that the documents name has words in the page, and the page has no other."""
-    wanted = {"P01"}
+    wanted = {"P01", "N02"}
     for name in ("README.md", "docs/LABELS.md", "docs/FILES.md"):
         with open(os.path.join(TOP, name), encoding="utf-8") as file:
             cells = [cell.strip() for line in file if line.startswith("|") for cell in line.split("|")]
@@ -537,7 +537,8 @@ STEPS = [has_all_words, page_looks.signs_on, makes_items_and_bins, takes_goods_i
          page_lists.shows_open_orders, page_lists.shows_a_bin, page_lists.shows_what_expires, page_lists.finds_by_name, page_desk.tells_a_late_day,
          page_desk.takes_scans_anywhere, page_desk.counts_cases, page_desk.walks_for_several, page_desk.moves_a_bin, page_desk.makes_by_file,
          page_desk.hands_out_files, page_desk.shows_a_delivery, page_desk.reads_symbols_of_a_screen, page_labels.reads_symbols, page_labels.tells_doubts,
-         page_labels.takes_best_before, page_asks.asks_little, page_asks.names_cost_little, page_routes.shows_whom_a_lot_went_to, page_routes.counts_all, page_routes.picks_by_one_request, page_language.speaks_german, page_axe.is_accessible, acts_once, shows_again, outlasts_a_password,
+         page_labels.takes_best_before, page_asks.asks_little, page_asks.names_cost_little, page_routes.shows_whom_a_lot_went_to, page_routes.shows_a_shipment,
+         page_routes.counts_all, page_routes.picks_by_one_request, page_language.speaks_german, page_axe.is_accessible, acts_once, shows_again, outlasts_a_password,
          goes_on_offline, is_shut, is_shut_to_other_sites, bars_names, page_looks.shows_home, page_looks.fits_all_screens, counts_and_writes_off,
          page_looks.gives_back, opens_the_day, page_lists.counts_from_the_business_day, has_all_words, page_away.reads_by_camera,
          page_away.asks_for_the_password, page_away.opens_without_network, outlasts_a_dead_battery]

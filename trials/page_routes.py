@@ -1,4 +1,4 @@
-"""Steps of `trials/page.py` on the requests for a lot's trace, for what to pick and for the figures of the house. Where the
+"""Steps of `trials/page.py` on the requests for a lot's trace, for a shipment, for what to pick and for the figures of the house. Where the
 program has one of them not yet, the gate answers in its place, from what else the program shows."""
 import json
 import re
@@ -46,12 +46,12 @@ class StandIn:
     @classmethod
     def answers(cls, raw):
         """The answer in the program's place, or nothing."""
-        found = re.match(rb"GET (/(traces|picks|figures)[^ ]*) ", raw)
+        found = re.match(rb"GET (/(traces|shipments|picks|figures)[^ ]*) ", raw)
         if not found:
             return None
         route, path = found[2].decode(), found[1].decode()
         if route not in cls.has:
-            cls.has[route] = cls.lotd({"figures": "/figures", "picks": "/picks/NONE", "traces": "/traces/%s/NONE" % NUTS}[route])[1] not in ({"code": "W06"}, {"code": "W07"})
+            cls.has[route] = cls.lotd({"figures": "/figures", "picks": "/picks/NONE", "traces": "/traces/%s/NONE" % NUTS, "shipments": "/shipments/999999"}[route])[1] not in ({"code": "W06"}, {"code": "W07"})
         if cls.has[route]:
             return None
         told = getattr(cls, route)(*path.split("/")[2:])
@@ -114,6 +114,15 @@ class StandIn:
                     deliveries=[dict(act=int(it[0]), day=it[1], delivery=it[3].rsplit("/", 1)[0], line=int(it[3].rsplit("/", 1)[1]), qty=int(it[4])) for it in of("RECEIPT")],
                     received=sum(int(it[4]) for it in of("RECEIPT")), on=sum(abs(int(it[4])) for it in of("WRITEON")), off=sum(abs(int(it[4])) for it in of("WRITEOFF")))
 
+    @classmethod
+    def shipments(cls, number):
+        it = cls.shipped.get(int(number))
+        if not it:
+            return dict(code="N02")
+        stocks = {gtin: cls.lotd("/stock/" + gtin)[1] for gtin in {line["gtin"] for line in it["lines"]}}
+        lines = [dict(line, name=stocks[line["gtin"]]["name"], expiry=next(lot["expiry"] for lot in stocks[line["gtin"]]["lots"] if lot["lot"] == line["lot"])) for line in it["lines"]]
+        return dict(it, lines=sorted(lines, key=lambda line: (line["gtin"], line["expiry"])))
+
 
 def fills():
     """A lot of which some was shipped to two customers, some is picked, some was written off; and another item."""
@@ -153,6 +162,22 @@ def shows_whom_a_lot_went_to():
     is_fit("traced-recalled")
     is_printed("traced-recalled", [".noticed", ".calls td.blank"], ["form", "nav", "header", ".pair"])
     passed("whom a lot went to, what it came with and the balance, before and after its recall; what a recall touches, asked before")
+
+
+def shows_a_shipment():
+    number = next(it["number"] for it in json.loads(asked("/traces/%s/NUT1" % NUTS)[1])["shipments"] if it["customer"] == "Station Hotel")
+    go("order")
+    until("the desk's orders", lambda: every("main a.button"))
+    [it for it in every("main a.button") if it.text == "A shipment"][0].click()
+    until("its number is asked", lambda: text("#title") == "A shipment")
+    by_hand(str(number))
+    until("the shipment", lambda: text("#title") == "Shipment %d" % number and "Station Hotel" in text("main"))
+    is_told("its lines", [["Figs 500 g", "FIG1", "2"], ["Walnuts 1 kg", "NUT1", "10"]], sorted([it.find_elements("tag name", "td")[0].text.split(" 0")[0], it.find_elements("tag name", "td")[1].text.split()[0], it.find_elements("tag name", "td")[2].text] for it in every("tbody tr")))
+    is_fit("shipment")
+    is_printed("shipment", [".noticed", "table", ".blank"], ["form", "nav", "header", ".pair"])
+    go("shipment/999999")
+    until("none of this number", lambda: "There is no shipment of this number" in text("main"))
+    passed("a shipment opens by its number, with its lots; its delivery note, printed; one that is not there")
 
 
 def counts_all():

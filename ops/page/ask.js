@@ -57,6 +57,7 @@ export const stock = gtin => get("stock", gtin);
 export const picks = order => get("picks", order);
 /** Where a lot came from, where it is, and whom it went to. */
 export const trace = (gtin, lot) => get("traces", gtin, lot);
+export const shipment = number => get("shipments", number);
 /** How the house stands, in numbers of one moment. */
 export const figures = () => get("figures");
 

@@ -29,6 +29,7 @@ const kinds = {
   label: { label: say`Label`, ask: say`scan it`, hint: say`scan it` },
   bin: { label: say`Bin`, ...KEY }, from: { label: say`From bin`, ...KEY }, to: { label: say`To bin`, ...KEY },
   order: { label: say`Order`, ...KEY }, delivery: { label: say`Delivery`, ...KEY },
+  shipment: { label: say`Shipment`, read: number(1, 999999999), hint: say`its number`, mode: "numeric" },
   line: { label: say`Line`, read: number(1, 9999), hint: say`1 to 9,999`, mode: "numeric", isByHand: true },
   customer: { label: say`Customer`, ...NAME }, name: { label: say`Name`, ...NAME },
   qty: { label: say`Quantity`, ...COUNT },

@@ -17,6 +17,7 @@ import { pick } from "./screens/pick.js";
 import { lot } from "./screens/lot.js";
 import { newOrder, order } from "./screens/order.js";
 import { item } from "./screens/item.js";
+import { shipped } from "./screens/shipped.js";
 import { doing, find } from "./screens/simple.js";
 import { anything, home, named, openScan } from "./screens/home.js";
 import { choose } from "./screens/open.js";
@@ -45,6 +46,7 @@ const screens = {
   pick: (...orders) => (orders.length ? pick(...orders) : choose("pick", say`Pick an order`, "picks")),
   order: id => (id ? order(id) : choose("order", say`Open orders`, "all")),
   item: gtin => (gtin ? item(gtin) : find("item", "gtin", say`An item`)),
+  shipment: number => (number ? shipped(number) : find("shipment", "shipment", say`A shipment`)),
   lot: (gtin, name) => (name ? lot(gtin, name) : find("lot", "lot", say`A lot`)),
 };
 /** What a person sees who has not signed. */

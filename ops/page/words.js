@@ -21,7 +21,7 @@ const codes = {
   Q03: [say`That is more than was picked`, say`Look at the order again`], Q04: [say`From and to are the same bin`, ""],
   Q05: [say`The house may not have so many units of an item`, say`Call the office`],
   Q06: [say`So many units of an item may not be on order`, say`Call the office`],
-  N01: [say`The lot is not recalled, so it has no notice`, ""],
+  N01: [say`The lot is not recalled, so it has no notice`, ""], N02: [say`There is no shipment of this number`, say`Read the number again`],
   W01: [say`The request was cut: its head`, say`Call the office`], W02: [say`The request was cut: its length`, say`Call the office`],
   W03: [say`The request was no JSON`, say`Call the office`], W04: [say`A field breaks its rule`, say`Look at what was entered`],
   W05: [say`It cannot be read`, ""], W06: [say`The server does not know this request`, say`The page is newer than the server. Call the office`],

@@ -30,7 +30,8 @@ export function sent() {
     node.replaceChildren(
       ...list(waiting.length ? say`Not answered yet, trying` : say`Nothing waits for an answer`, waiting),
       ...list(refused.length ? say`Refused` : say`Nothing was refused`, refused), unseen > 1 ? button(say`I have read all`, allSeen) : "",
-      ...list(say`Done`, of("done").reverse().map(it => line(it, tag("p", {}, more(it.answer))))));
+      ...list(say`Done`, of("done").reverse().map(it => line(it, tag("p", {}, more(it.answer)),
+        it.answer.shipment && tag("div", { class: "pair" }, tag("a", { class: "button", href: `#/shipment/${it.answer.shipment}` }, say`Delivery note`))))));
   }
   return { title: say`What was sent`, node, changed, begin: changed };
 }

@@ -47,7 +47,7 @@ export function lot(gtin, name) {
     const whom = [say`Shipment`, say`Day`, say`Units`, say`Order`, isRecalled ? say`Customer to call` : say`Customer`];
     return [
       isRecalled ? tag("h3", { class: "refused" }, say`Recall notice: ${grouped(inBins)} in bins, ${grouped(out)} shipped`) : tag("h3", {}, say`Went to: ${grouped(out)} shipped`),
-      told.shipments.length > 0 && table(whom, told.shipments.map(it => [String(it.number), it.day, grouped(it.qty), it.order, it.customer]),
+      told.shipments.length > 0 && table(whom, told.shipments.map(it => [tag("a", { href: `#/shipment/${it.number}` }, String(it.number)), it.day, grouped(it.qty), it.order, it.customer]),
         "calls", isRecalled ? [say`Who was called`, say`By`, say`When`] : []),
       told.staged.length > 0 && tag("h3", {}, say`Picked for`),
       told.staged.length > 0 && tag("ul", { class: "plain" }, told.staged.map(it => tag("li", {}, tag("a", { href: `#/order/${it.order}` }, it.order), tag("span", {}, it.customer), tag("b", {}, grouped(it.qty))))),

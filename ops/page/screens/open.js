@@ -88,7 +88,7 @@ export function choose(screen, title, first) {
   }
   return { title, form: asked, follows: true, refresh, take: isPicker ? text => show(text.replace(/^\][A-Za-z]\d/, "").toUpperCase()) : null,
     node: isPicker ? tag("div", { class: "two" }, tag("div", {}, tabs, head), tag("div", {}, list.node, several, asked.node))
-      : tag("div", { class: "two" }, tag("div", {}, asked.node, head, tabs, list.save), list.node) };
+      : tag("div", { class: "two" }, tag("div", {}, asked.node, head, tabs, tag("div", { class: "pair" }, tag("a", { class: "button", href: "#/shipment" }, say`A shipment`), list.save)), list.node) };
 }
 
 /** How many orders are open and short, and the first ten: for home. */

@@ -170,9 +170,11 @@ export default {
   "The server is busy or just starting": "Der Server ist beschäftigt oder startet gerade", "What came is no answer of the server": "Was kam, ist keine Antwort des Servers",
   "It was refused": "Es wurde abgelehnt", "change {0}": "Änderung {0}", "shipment {0}": "Sendung {0}",
   "{0} units are now in RETURNS: carry them there": "{0} Stück sind jetzt in RETURNS: bringen Sie sie hin",
-  "{0} rows taken in, {1} were there before": "{0} Zeilen angenommen, {1} waren schon da", "It was never received here": "Sie ist hier nie eingegangen",
-  "It touches {0}, {1}, {2}": "Er trifft {0}, {1}, {2}", "{0} shipped, {1} in the house": "{0} versandt, {1} im Haus", "Went to: {0} shipped": "Ging an: {0} versandt",
-  "Picked for": "Entnommen für", "Came with: {0} received": "Kam mit: {0} angenommen",
+  "{0} rows taken in, {1} were there before": "{0} Zeilen angenommen, {1} waren schon da", "its number": "ihre Nummer", "A shipment": "Eine Sendung", "Delivery note": "Lieferschein",
+  "It was never received here": "Sie ist hier nie eingegangen", "It touches {0}, {1}, {2}": "Er trifft {0}, {1}, {2}", "{0} shipped, {1} in the house": "{0} versandt, {1} im Haus",
+  "Went to: {0} shipped": "Ging an: {0} versandt", "Picked for": "Entnommen für", "Came with: {0} received": "Kam mit: {0} angenommen",
   "received {0} + written on {1} = written off {2} + bins {3} + picked {4} + shipped {5}": "angenommen {0} + zugebucht {1} = ausgebucht {2} + Plätze {3} + entnommen {4} + versandt {5}",
-  "{0} urgent, {1} with units picked": "{0} eilig, {1} mit entnommenen Stücken"
+  "{0} urgent, {1} with units picked": "{0} eilig, {1} mit entnommenen Stücken", "DELIVERY NOTE": "LIEFERSCHEIN", "Received": "Angenommen",
+  "Received by: ______________________    Day: ______________________": "Angenommen von: ______________________    Tag: ______________________", "Shipment {0}": "Sendung {0}",
+  "There is no shipment of this number": "Eine Sendung dieser Nummer gibt es nicht", "Read the number again": "Lesen Sie die Nummer noch einmal", "Lot, expires": "Charge, läuft ab"
 };
